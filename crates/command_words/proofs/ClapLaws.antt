@@ -7,20 +7,14 @@ use Rattle.clap.specs.declared.error.kind.ErrorKind.{ErrorKind}
 use Rattle.clap.proofs.OnLiterals.{clap_on_literals}
 use Rattle.command_words.specs.ClapWords.{app, clap_rows, is_fault}
 
-app_is_simple : is_simple app ≡ true
-unfolding clap_on_literals
-app_is_simple = refl
-
-app_is_free : is_simple_and_free app ≡ true
-unfolding clap_on_literals
-app_is_free = refl
-
 -- the command is one of which clap says which words it takes
 pub simple : (a : App) → a ≡ app → is_simple a ≡ true
-simple a is = ap is_simple is ∙ app_is_simple
+unfolding clap_on_literals
+simple a is = ap is_simple is
 
 pub simple_and_free : (a : App) → a ≡ app → is_simple_and_free a ≡ true
-simple_and_free a is = ap is_simple_and_free is ∙ app_is_free
+unfolding clap_on_literals
+simple_and_free a is = ap is_simple_and_free is
 
 -- where no kind of error comes, its rows are there
 pub is_taken : (a : App) (words : List Text) (rows : List Row) → a ≡ app → fault_of a words ≡ [] → rows ≡ matches_of a words → Some rows ≡ clap_rows words

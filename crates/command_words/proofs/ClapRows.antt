@@ -1,5 +1,5 @@
 -- What clap's rows hold after one more value.
-use Rattle.std.proofs.Common.{◌≡◌, ◌∙◌, ◌||◌, List, [], ◌∷◌, ◌++◌, Option, Some, None, is_some, Bool, true, false, cond, refl, ap, true≢false, option_map}
+use Rattle.std.proofs.Common.{◌≡◌, ◌∙◌, ◌||◌, List, [], ◌∷◌, ◌++◌, Option, Some, is_some, Bool, true, false, cond, refl, ap, true≢false, option_map}
 use Rattle.std.specs.Prelude.{find, unwrap_or}
 use Rattle.std.specs.Str.{bytes_eq}
 use Rattle.std.proofs.lemmas.Slice.Eq.{bytes_eq-Decides}
@@ -36,20 +36,6 @@ row_with id = find (λ r. bytes_eq r.id id)
 module _ (id : Text) (how : Reading) (source : ValueSource) (value : Text) where
   abbrev added : List Row → List Row
   added = with_values id how source (value ∷ [])
-
-  -- a row with this value alone
-  abbrev pub new_row : Row
-  new_row = record { id = id; values = value ∷ []; count = None; source = Some source; reading = how }
-
-  -- which comes where no row has the id
-  pub added_row : (rows : List Row) → bytes_eq id id ≡ true → has_row id rows ≡ false → row_with id (added rows) ≡ Some new_row
-  added_row [] same none = rw same refl
-  added_row (r ∷ rows) same none = go (bytes_eq r.id id) refl none (added_row rows same)
-    where
-      go : (b : Bool) → bytes_eq r.id id ≡ b → (b || has_row id rows) ≡ false → (has_row id rows ≡ false → row_with id (added rows) ≡ Some new_row)
-          → row_with id (cond b (more_values source (value ∷ []) r ++ rows) (r ∷ added rows)) ≡ Some new_row
-      go true e n rest = absurd (true≢false n)
-      go false e n rest = rw e (rest n)
 
   -- the value comes after those of its id
   pub added_here : (rows : List Row) → bytes_eq id id ≡ true → all_of id (added rows) ≡ Some (unwrap_or (all_of id rows) [] ++ value ∷ [])

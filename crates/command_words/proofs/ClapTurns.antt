@@ -1,15 +1,16 @@
 -- What clap makes of one word, at the command that it is given here: computed with what is held kept abstract.
-use Rattle.std.proofs.Common.{◌≡◌, ◌&&◌, ◌==◌, ℕ, List, [], ◌∷◌, Option, Some, None, Bool, true, false, cond, refl, ap}
+use Rattle.std.proofs.Common.{◌≡◌, ◌&&◌, ◌==◌, ℕ, List, [], ◌∷◌, map, Option, Some, None, Bool, true, false, cond, refl, ap, ◌∙◌}
 use Rattle.std.specs.Prelude.{codes, ⊤}
 use Rattle.std.specs.Str.{bytes_eq}
 use Rattle.clap.specs.Lexer.{long_of, short_of}
-use Rattle.clap.specs.Walk.{Held, Rule, Text, Waiting, Walk, idle, option, positional, pushed, reacted, settled, walked}
+use Rattle.clap.specs.Walk.{Held, Rule, Text, Waiting, Walk, arg_by_id, idle, option, option_word, positional, pushed, reacted, settled, walked}
 use Rattle.clap.specs.Simple.{Shape, built}
 use Rattle.clap.specs.Kinds.{Kinds}
 use Rattle.clap.specs.Faults.{settle_fault, turn_fault}
 use Rattle.clap.specs.declared.builder.value_parser.ValueParser.TheVariants as vp
 use Rattle.command_words.specs.ClapWords.{app, file_rule, flag_rule, option_rule}
-use Rattle.command_words.specs.WordParts.{OptionName, Gap, Pivots, Places, Show, Method, Slack, Proof, Start, is_option}
+use Rattle.command_words.specs.WordParts.{flag_value, is_option, options}
+use Rattle.std.proofs.lemmas.Slice.Eq.{bytes_eq-Decides}
 
 -- what building makes of an argument with values: one a use
 abbrev filled_with : Rule → Option ℕ → Rule
@@ -18,31 +19,18 @@ filled_with rule index = record rule { index = index; parser = Some vp.String; r
 abbrev pub file : Rule
 file = filled_with file_rule (Some 1)
 
--- an option's id, which is its name without dashes
-abbrev pub id_of : OptionName → Text
-id_of Gap = codes "gap"
-id_of Pivots = codes "pivots"
-id_of Places = codes "places"
-id_of Show = codes "show"
-id_of Method = codes "method"
-id_of Slack = codes "slack"
-id_of Proof = codes "proof"
-id_of Start = codes "start"
-
-abbrev pub chosen : OptionName → Rule
-chosen o = filled_with (option_rule (id_of o)) None
-
--- and what of the flag: it stands for `true` where it is used, and for `false` where it isn't
-abbrev pub exact : Rule
-exact = record (flag_rule (codes "exact")) {
+-- and of an option. A flag stands for `true` where it is used, and for `false` where it isn't
+abbrev pub rule_for : Text × Bool → Rule
+rule_for (name, true) = filled_with (option_rule name) None
+rule_for (name, false) = record (flag_rule name) {
   parser = Some vp.Bool;
   range = Some (record { start_inclusive = 0; end_inclusive = 0 });
   defaults = codes "false" ∷ [];
-  missing = codes "true" ∷ [];
+  missing = flag_value ∷ [];
 }
 
 abbrev pub rules : List Rule
-rules = file ∷ chosen Gap ∷ chosen Pivots ∷ chosen Places ∷ chosen Show ∷ chosen Method ∷ chosen Slack ∷ chosen Proof ∷ chosen Start ∷ exact ∷ []
+rules = file ∷ map rule_for options
 
 abbrev pub shape : Shape
 shape = record (built app).top { rules = rules }
@@ -73,20 +61,21 @@ abbrev pub with_file : Text → Held → Held
 with_file name h = record (settled rules h) { pending = Some (codes "file", name ∷ []) }
 
 -- held while the value of an option is due
-abbrev pub with_due : OptionName → Held → Held
-with_due o h = record (settled rules h) { pending = Some (id_of o, []) }
+abbrev pub with_due : Text → Held → Held
+with_due name h = record (settled rules h) { pending = Some (name, []) }
 
 -- held once it is there
-abbrev pub with_value : OptionName → Text → Held → Held
-with_value o value h = record (settled rules h) { pending = Some (id_of o, value ∷ []) }
+abbrev pub with_value : Text → Text → Held → Held
+with_value name value h = record (settled rules h) { pending = Some (name, value ∷ []) }
 
--- held after an option with its value joined to it
-abbrev pub with_joined : OptionName → Text → Held → Held
-with_joined o value h = reacted rules (chosen o) (value ∷ []) h
+-- the values of a use of an option that has one, or of a flag
+abbrev pub values_for : Bool → Text → List Text
+values_for true value = value ∷ []
+values_for false value = []
 
--- held after the flag
-abbrev pub with_exact : Held → Held
-with_exact h = reacted rules exact [] h
+-- held after an option with its value joined to it, or a flag
+abbrev pub with_use : Text × Bool → Text → Held → Held
+with_use o value h = reacted rules (rule_for o) (values_for o.1 value) h
 
 and_false : (b : Bool) → (b && false) ≡ false
 and_false true = refl
@@ -152,26 +141,16 @@ unfolding walked
 past_next word h waiting = ap (λ b. past_end (file_pushed word h b) positional) (and_false _)
 
 -- the value that is due
-abbrev pub due : OptionName → Held → Walk
-due o h = at (with_due o h) (option (id_of o))
+abbrev pub due : Text → Held → Walk
+due name h = at (with_due name h) (option name)
 
-pub value_turn : (o : OptionName) (word : Text) (h : Held) → is_option word ≡ false → turn (due o h) word ≡ []
-value_turn Gap word h e = let p = is_plain word e in rw (p.no_end, p.no_long, p.no_short) refl
-value_turn Pivots word h e = let p = is_plain word e in rw (p.no_end, p.no_long, p.no_short) refl
-value_turn Places word h e = let p = is_plain word e in rw (p.no_end, p.no_long, p.no_short) refl
-value_turn Show word h e = let p = is_plain word e in rw (p.no_end, p.no_long, p.no_short) refl
-value_turn Method word h e = let p = is_plain word e in rw (p.no_end, p.no_long, p.no_short) refl
-value_turn Slack word h e = let p = is_plain word e in rw (p.no_end, p.no_long, p.no_short) refl
-value_turn Proof word h e = let p = is_plain word e in rw (p.no_end, p.no_long, p.no_short) refl
-value_turn Start word h e = let p = is_plain word e in rw (p.no_end, p.no_long, p.no_short) refl
+pub value_turn : (name word : Text) (h : Held) → is_option word ≡ false → turn (due name h) word ≡ []
+value_turn name word h e = let p = is_plain word e in rw (p.no_end, p.no_long, p.no_short) refl
 
-pub value_next : (o : OptionName) (word : Text) (h : Held) → is_option word ≡ false → next (due o h) word ≡ at (with_value o word h) idle
+pub value_next : (name word : Text) (h : Held) → arg_by_id rules name ≡ Some (rule_for (name, true)) → is_option word ≡ false → next (due name h) word ≡ at (with_value name word h) idle
 unfolding walked
-value_next Gap word h e = let p = is_plain word e in rw (p.no_end, p.no_long, p.no_short) refl
-value_next Pivots word h e = let p = is_plain word e in rw (p.no_end, p.no_long, p.no_short) refl
-value_next Places word h e = let p = is_plain word e in rw (p.no_end, p.no_long, p.no_short) refl
-value_next Show word h e = let p = is_plain word e in rw (p.no_end, p.no_long, p.no_short) refl
-value_next Method word h e = let p = is_plain word e in rw (p.no_end, p.no_long, p.no_short) refl
-value_next Slack word h e = let p = is_plain word e in rw (p.no_end, p.no_long, p.no_short) refl
-value_next Proof word h e = let p = is_plain word e in rw (p.no_end, p.no_long, p.no_short) refl
-value_next Start word h e = let p = is_plain word e in rw (p.no_end, p.no_long, p.no_short) refl
+value_next name word h by_id e =
+    let p = is_plain word e in
+    let same : bytes_eq name name ≡ true = (bytes_eq-Decides name name).1 refl in
+    let found = ap (λ o. at (option_word o name word (with_due name h)).0 (option_word o name word (with_due name h)).1) by_id in
+    rw (p.no_end, p.no_long, p.no_short) (found ∙ rw same refl)

@@ -1,10 +1,10 @@
 -- The number that is found of a text is the one that spells it, and a list of limits keeps what its rules say.
 use Rattle.std.proofs.Common.{◌≡◌, ◌∙◌, ℕ, ◌+◌, ◌<◌, ◌≤◌, ◌^◌, ℤ, pos, List, [], ◌∷◌, ◌++◌, length, Option, Some, None, Result, Ok, Err, Bool, true, false, cond, ◌&&◌, eqb, ltb, refl, sym, ap, ap₂, true≢false, arith, option_map, nat_le, subst, T}
-use Rattle.std.specs.Prelude.{int_le, unsigned_abs, IfOk, ⊤}
+use Rattle.std.specs.Prelude.{int_le, unsigned_abs, IfOk, IfSome}
 use Rattle.std.specs.List.{AllByRecursion}
 use Rattle.std.specs.Option.{option_and_then}
 use Rattle.std.specs.Str.{all_ascii_digits}
-use Rattle.std.proofs.lemmas.Bool.{eqb-true, leb-true, lt-ltb, ltb-true}
+use Rattle.std.proofs.lemmas.Bool.{and_parts, eqb-true, leb-true, lt-ltb, ltb-true}
 use Rattle.exact_num.specs.Range.{InRange}
 use Rattle.scaled_decimals.specs.declared.reading.DecFault.{DecFault}
 use Rattle.scaled_decimals.specs.declared.reading.DecFault.TheVariants.{NotNumber, TooLarge}
@@ -20,12 +20,8 @@ use Rattle.command_words.specs.LimitLists.{AreLimits, IsLimit, all_of, between_c
 
 -- ---- powers of ten
 
-both_true : (a b : Bool) → (a && b) ≡ true → (a ≡ true) × (b ≡ true)
-both_true true b e = (refl, e)
-both_true false b e = absurd (true≢false (sym e))
-
 numeral_is : (ds : List ℕ) → is_numeral ds ≡ true → IsNumeral ds
-numeral_is ds e = let parts = both_true (ltb 0 (length ds)) (all_ascii_digits ds) e in (ltb-true 0 (length ds) parts.0, parts.1)
+numeral_is ds e = let parts = and_parts (ltb 0 (length ds)) (all_ascii_digits ds) e in (ltb-true 0 (length ds) parts.0, parts.1)
 
 is_numeral_of : (ds : List ℕ) → IsNumeral ds → is_numeral ds ≡ true
 is_numeral_of ds is = ap₂ (λ a b. a && b) (lt-ltb 0 (length ds) is.0) is.1
@@ -126,60 +122,48 @@ limit_reads text (Err NotNumber) none = go (number_in text) refl
     go None is = refl
     go (Some p) is = absurd (none p (number_is text p is))
 
-abbrev IsLimitIfRead : Option ℤ → Type 0
-IsLimitIfRead None = ⊤
-IsLimitIfRead (Some limit) = IsLimit limit
-
-exact_is : (r : Result (ℤ × Bool) DecFault) → IfOk r (λ v. unsigned_abs v.0 ≤ 10 ^ 24) → IsLimitIfRead (exact_limit r)
+exact_is : (r : Result (ℤ × Bool) DecFault) → IfOk r (λ v. unsigned_abs v.0 ≤ 10 ^ 24) → IfSome (exact_limit r) IsLimit
 exact_is (Ok (value, false)) bound = go (int_le (pos 0) value) refl
   where
-    go : (b : Bool) → int_le (pos 0) value ≡ b → IsLimitIfRead (cond b (Some value) None)
+    go : (b : Bool) → int_le (pos 0) value ≡ b → IfSome (cond b (Some value) None) IsLimit
     go true least = (record { le = true_is (int_le (pos 0) value) least }, bound)
     go false least = tt
 exact_is (Ok (value, true)) bound = tt
 exact_is (Err fault) bound = tt
 
-limit_is : (text : List ℕ) → IsLimitIfRead (limit_of text)
+limit_is : (text : List ℕ) → IfSome (limit_of text) IsLimit
 unfolding limit_of
 limit_is text = go (number_in text)
   where
-    go : (p : Option NumberText) → IsLimitIfRead (option_and_then (λ q. exact_limit (decimal_of q)) p)
+    go : (p : Option NumberText) → IfSome (option_and_then (λ q. exact_limit (decimal_of q)) p) IsLimit
     go None = tt
     go (Some p) = exact_is (decimal_of p) (IfOk-bound p (decimal_of p) refl)
 
 -- so it fits
 pub limit_in_range : (text : List ℕ) (limit : ℤ) → limit_of text ≡ Some limit → InRange limit
-limit_in_range text limit is = let kept : IsLimit limit = subst IsLimitIfRead is (limit_is text) in omega (arith, kept.1)
+limit_in_range text limit is = let kept : IsLimit limit = subst (λ o. IfSome o IsLimit) is (limit_is text) in omega (arith, kept.1)
 
-abbrev AllIfRead : Option (List ℤ) → Type 0
-AllIfRead None = ⊤
-AllIfRead (Some limits) = AllByRecursion IsLimit limits
-
-all_are : (texts : List (List ℕ)) → AllIfRead (all_of limit_of texts)
+all_are : (texts : List (List ℕ)) → IfSome (all_of limit_of texts) (AllByRecursion IsLimit)
 unfolding all_of
 all_are [] = tt
 all_are (text ∷ texts) = go (limit_of text) (all_of limit_of texts) (limit_is text) (all_are texts)
   where
-    go : (first : Option ℤ) (others : Option (List ℤ)) → IsLimitIfRead first → AllIfRead others → AllIfRead (option_and_then (λ x. option_map (λ xs. x ∷ xs) others) first)
+    go : (first : Option ℤ) (others : Option (List ℤ)) → IfSome first IsLimit → IfSome others (AllByRecursion IsLimit) → IfSome (option_and_then (λ x. option_map (λ xs. x ∷ xs) others) first) (AllByRecursion IsLimit)
     go None others is are = tt
     go (Some x) None is are = tt
     go (Some x) (Some xs) is are = (is, are)
 
-abbrev pub AreLimitsIfRead : Option (List ℤ) → Type 0
-AreLimitsIfRead None = ⊤
-AreLimitsIfRead (Some limits) = AreLimits limits
-
-pub are_limits : (word : List ℕ) → AreLimitsIfRead (limits_of word)
+pub are_limits : (word : List ℕ) → IfSome (limits_of word) AreLimits
 are_limits word = go (all_of limit_of (between_commas word)) (all_are (between_commas word))
   where
-    few : (limits : List ℤ) → AllByRecursion IsLimit limits → AreLimitsIfRead (few_ascending limits)
+    few : (limits : List ℤ) → AllByRecursion IsLimit limits → IfSome (few_ascending limits) AreLimits
     few limits within = by_tests (nat_le (length limits) most_limits) (is_ascending limits) refl refl
       where
-        by_tests : (short rising : Bool) → nat_le (length limits) most_limits ≡ short → is_ascending limits ≡ rising → AreLimitsIfRead (cond (short && rising) (Some limits) None)
+        by_tests : (short rising : Bool) → nat_le (length limits) most_limits ≡ short → is_ascending limits ≡ rising → IfSome (cond (short && rising) (Some limits) None) AreLimits
         by_tests true true short rising = record { few = leb-true (length limits) most_limits short; ascending = rising; within = within }
         by_tests true false short rising = tt
         by_tests false rising short is = tt
 
-    go : (read : Option (List ℤ)) → AllIfRead read → AreLimitsIfRead (option_and_then few_ascending read)
+    go : (read : Option (List ℤ)) → IfSome read (AllByRecursion IsLimit) → IfSome (option_and_then few_ascending read) AreLimits
     go None all = tt
     go (Some limits) all = few limits all

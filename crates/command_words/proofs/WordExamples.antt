@@ -1,332 +1,225 @@
--- What the words of the command line mean, for all commands with all their options, computed on examples.
-use Rattle.std.proofs.Common.{◌≡◌, [], ◌∷◌, refl}
-use Rattle.std.specs.Prelude.{codes, Ok, Err, Some, None}
+-- What the words of the command line mean, computed on lines of words with blanks between.
+use Rattle.std.proofs.Common.{◌≡◌, ◌==◌, ℕ, List, [], ◌∷◌, map, pos, refl}
+use Rattle.std.specs.Prelude.{codes, Result, Ok, Err, Some, None, true, false}
+use Rattle.std.specs.List.{slice_split}
+use Rattle.scaled_decimals.specs.DecimalReading.{denominator, numerator}
+use Rattle.scaled_decimals.specs.Digits.{number_of}
+use Rattle.scaled_decimals.specs.NumberText.{Bare, Minus}
+use Rattle.command_words.specs.declared.fault.WordFault.{WordFault}
 use Rattle.command_words.specs.declared.fault.WordFault.TheVariants.{NoCommand, BadCommand, BadForm, BadNumber, BadShow, GapAlone}
-use Rattle.command_words.specs.declared.command.SolveShow.TheVariants.{Report, Plan, Multipliers}
+use Rattle.command_words.specs.declared.command.SolveShow.TheVariants.{Report, Plan, Multipliers, Proof, Line}
+use Rattle.command_words.specs.declared.command.CompareShow.TheVariants as compare
 use Rattle.command_words.specs.declared.command.MakeShow.TheVariants.{File, Summary}
 use Rattle.command_words.specs.declared.command.SolveMethod.TheVariants.{Exact, Rounded}
-use Rattle.command_words.specs.Words.{asked, names_of, Mps, Check, Solve, Explain, Make}
-use Rattle.command_words.specs.WordParts.{parts_of, Gap, Pivots, Places, Show, Method, Slack, Chosen, Spells, Name, Apart, Joined}
+use Rattle.command_words.specs.LimitLists.{all_of, limit_of, limits_of}
+use Rattle.command_words.specs.LimitNumbers.{number_in}
+use Rattle.command_words.specs.Words.{Request, asked, names_of, Mps, Check, CheckProof, Solve, SolveFrom, Explain, Curve, Span, Make, Table, Page, Warn, Compare, Reduce}
+use Rattle.command_words.specs.WordParts.{Chosen, Spells, Name, Apart, Joined, Flag, parts_of}
 use Rattle.command_words.specs.WordParts as parts
 
--- ---- the command
+-- the words between blanks: two blanks have an empty word between them
+abbrev words_in : List ℕ → List (List ℕ)
+words_in = slice_split (λ b. b == 32)
+
+-- each of these lines has this answer
+abbrev AllAsk : Result Request WordFault → List (List ℕ) → Type 0
+AllAsk answer lines = map (λ line. asked (words_in line)) lines ≡ map (λ line. answer) lines
+
+-- each of these lines asks for the command beside it
+abbrev Ask : List (List ℕ × Request) → Type 0
+Ask lines = map (λ line. asked (words_in line.0)) lines ≡ map (λ line. Ok line.1) lines
+
+-- ---- commands
 
 no_words : asked ([]) ≡ Err NoCommand
 no_words = refl
 
-empty_first_word : asked ([] ∷ []) ≡ Err BadCommand
-empty_first_word = refl
-
-unknown_command : asked (codes "explains" ∷ codes "f" ∷ []) ≡ Err BadCommand
-unknown_command = refl
-
--- an option before the command is taken for the command
-option_first : asked (codes "--gap" ∷ codes "5" ∷ []) ≡ Err BadCommand
-option_first = refl
-
--- an unknown command comes before a fault of form
-unknown_before_form : asked (codes "mpz" ∷ codes "--help" ∷ codes "--help" ∷ []) ≡ Err BadCommand
-unknown_before_form = refl
-
--- ---- each command with what it takes
-
-mps_of_a_file : asked (codes "mps" ∷ codes "f" ∷ []) ≡ Ok (Mps (codes "f") 6)
-mps_of_a_file = refl
-
-check_with_defaults : asked (codes "check" ∷ codes "f" ∷ codes "p" ∷ []) ≡ Ok (Check (codes "f") (codes "p") None 0 6)
-check_with_defaults = refl
-
-check_with_multipliers : asked (codes "check" ∷ codes "f" ∷ codes "p" ∷ codes "m" ∷ []) ≡ Ok (Check (codes "f") (codes "p") (Some (codes "m")) 0 6)
-check_with_multipliers = refl
-
-check_with_gap : asked (codes "check" ∷ codes "f" ∷ codes "p" ∷ codes "m" ∷ codes "--gap" ∷ codes "5" ∷ []) ≡ Ok (Check (codes "f") (codes "p") (Some (codes "m")) 5 6)
-check_with_gap = refl
-
-solve_with_defaults : asked (codes "solve" ∷ codes "f" ∷ []) ≡ Ok (Solve (codes "f") 0 20000 6 Report Exact)
-solve_with_defaults = refl
+-- a command's word is compared by its bytes, and comes before any fault of form; an option before it is taken for it
+bad_commands : AllAsk (Err BadCommand) (codes "" ∷ codes "explains f" ∷ codes "--gap 5" ∷ codes "mpz --help --help" ∷ codes "Table f p x" ∷ codes "pages f p" ∷ codes "reduced f" ∷ [])
+bad_commands = refl
 
 -- options stand anywhere, in two words or one
-solve_with_all : asked (codes "solve" ∷ codes "--pivots" ∷ codes "7" ∷ codes "--show=plan" ∷ codes "f" ∷ codes "--gap=1000000" ∷ []) ≡ Ok (Solve (codes "f") 1000000 7 6 Plan Exact)
-solve_with_all = refl
+commands : Ask (
+    (codes "mps f", Mps (codes "f") 6) ∷
+    (codes "mps --places 9 f", Mps (codes "f") 9) ∷
+    (codes "mps f --places=6", Mps (codes "f") 6) ∷
+    (codes "check f p", Check (codes "f") (codes "p") None 0 6) ∷
+    (codes "check f p m", Check (codes "f") (codes "p") (Some (codes "m")) 0 6) ∷
+    (codes "check f p m --gap 5", Check (codes "f") (codes "p") (Some (codes "m")) 5 6) ∷
+    (codes "check f p --places 9", Check (codes "f") (codes "p") None 0 9) ∷
+    (codes "check f --proof p", CheckProof (codes "f") (codes "p") 0 6) ∷
+    (codes "check --proof=p --gap=5 f --places=9", CheckProof (codes "f") (codes "p") 5 9) ∷
+    (codes "solve f", Solve (codes "f") 0 20000 6 Report Exact) ∷
+    (codes "solve --pivots 7 --show=plan f --gap=1000000 --places=9", Solve (codes "f") 1000000 7 9 Plan Exact) ∷
+    (codes "solve f --show multipliers", Solve (codes "f") 0 20000 6 Multipliers Exact) ∷
+    (codes "solve f --show=line", Solve (codes "f") 0 20000 6 Line Exact) ∷
+    (codes "solve f --method=exact --gap=3", Solve (codes "f") 3 20000 6 Report Exact) ∷
+    (codes "solve f --show proof --method=rounded", Solve (codes "f") 10 20000 6 Proof Rounded) ∷
+    (codes "solve --method=rounded f --gap=0", Solve (codes "f") 0 20000 6 Report Rounded) ∷
+    (codes "solve f --method rounded --start a", SolveFrom (codes "f") (codes "a") 10 20000 6 Report) ∷
+    (codes "solve --places=9 --start=a --show line f --pivots=7 --gap=0 --method=rounded", SolveFrom (codes "f") (codes "a") 0 7 9 Line) ∷
+    (codes "explain f", Explain (codes "f") 20000 6 Exact) ∷
+    (codes "explain --pivots=7 f --places 9 --method=rounded", Explain (codes "f") 7 9 Rounded) ∷
+    (codes "span f R T 007", Span (codes "f") (codes "R") (codes "T") (codes "007") 0 0 20000 6 Exact) ∷
+    (codes "span --slack 100000 f R T 2020 --gap=3 --method=rounded", Span (codes "f") (codes "R") (codes "T") (codes "2020") 100000 3 20000 6 Rounded) ∷
+    (codes "make 7", Make 7 File) ∷
+    (codes "make --show summary 122", Make 122 Summary) ∷
+    (codes "table f p x", Table (codes "f") (codes "p") (codes "x") false 0 6) ∷
+    (codes "table f --gap=5 p --exact all --places 9", Table (codes "f") (codes "p") (codes "all") true 5 9) ∷
+    (codes "table --exact f p x", Table (codes "f") (codes "p") (codes "x") true 0 6) ∷
+    (codes "page f p", Page (codes "f") (codes "p") 0 6) ∷
+    (codes "page --gap=5 p --places 9 f", Page (codes "p") (codes "f") 5 9) ∷
+    (codes "warn f", Warn (codes "f")) ∷
+    (codes "compare f p g q", Compare (codes "f") (codes "p") (codes "g") (codes "q") 0 6 compare.Text) ∷
+    (codes "compare --gap=5 f p --show page --places 9 f q", Compare (codes "f") (codes "p") (codes "f") (codes "q") 5 9 compare.Page) ∷
+    (codes "reduce f", Reduce (codes "f") 6) ∷
+    (codes "reduce --places 9 f", Reduce (codes "f") 9) ∷ [])
+commands = refl
 
-solve_for_multipliers : asked (codes "solve" ∷ codes "f" ∷ codes "--show" ∷ codes "multipliers" ∷ []) ≡ Ok (Solve (codes "f") 0 20000 6 Multipliers Exact)
-solve_for_multipliers = refl
-
-explain_with_defaults : asked (codes "explain" ∷ codes "f" ∷ []) ≡ Ok (Explain (codes "f") 20000 6 Exact)
-explain_with_defaults = refl
-
-explain_with_all : asked (codes "explain" ∷ codes "--pivots=7" ∷ codes "f" ∷ codes "--places" ∷ codes "9" ∷ []) ≡ Ok (Explain (codes "f") 7 9 Exact)
-explain_with_all = refl
-
-make_with_defaults : asked (codes "make" ∷ codes "7" ∷ []) ≡ Ok (Make 7 File)
-make_with_defaults = refl
-
-make_with_summary : asked (codes "make" ∷ codes "--show" ∷ codes "summary" ∷ codes "122" ∷ []) ≡ Ok (Make 122 Summary)
-make_with_summary = refl
+-- the rounded method of `curve` keeps a gap of 10 millionths
+curves : Ask (
+    (codes "curve f R CO2 4,7", Curve (codes "f") (codes "R") (codes "CO2") (pos 4000000000 ∷ pos 7000000000 ∷ []) 0 20000 6 Exact) ∷
+    (codes "curve --pivots=7 f R CO2 4 --places=9 --method=rounded", Curve (codes "f") (codes "R") (codes "CO2") (pos 4000000000 ∷ []) 10 7 9 Rounded) ∷ [])
+unfolding limit_of all_of number_of numerator denominator
+curves = refl
 
 -- ---- faults of form
 
-no_file : asked (codes "solve" ∷ []) ≡ Err BadForm
-no_file = refl
+-- a word too few or too many; `--` is none
+counts : AllAsk (Err BadForm) (
+    codes "solve" ∷ codes "mps --" ∷ codes "mps a b" ∷ codes "check f" ∷ codes "check f p m x" ∷ codes "check f q --proof=p" ∷ codes "explain f g" ∷ codes "curve f R CO2"
+    ∷ codes "span f R T" ∷ codes "make" ∷ codes "table f p" ∷ codes "table f p x y" ∷ codes "table f --proof=p x" ∷ codes "page f" ∷ codes "page f p x" ∷ codes "warn f g"
+    ∷ codes "compare f p g" ∷ codes "compare f p g q x" ∷ codes "reduce" ∷ codes "solve --method=rounded --start=a" ∷ codes "solve f a --method=rounded --start=a" ∷ [])
+counts = refl
 
-surplus_file : asked (codes "mps" ∷ codes "a" ∷ codes "b" ∷ []) ≡ Err BadForm
-surplus_file = refl
+-- an option that isn't known, or is none of the command's
+options : AllAsk (Err BadForm) (
+    codes "mps --help" ∷ codes "solve f --gaps 5" ∷ codes "solve f --piv 5" ∷ codes "solve f -gap 5" ∷ codes "mps f --=5" ∷ codes "mps f --gap 5" ∷ codes "mps f --exact"
+    ∷ codes "mps f --start=a" ∷ codes "check f p --method=exact" ∷ codes "check f p --start a" ∷ codes "solve f --proof=p" ∷ codes "solve --exact f" ∷ codes "solve f --slack=1"
+    ∷ codes "explain f --method=rounded --gap=5" ∷ codes "explain f --method=rounded --start=a" ∷ codes "curve f R CO2 4 --slack=5" ∷ codes "make 7 --pivots 5" ∷ codes "make 7 --places 9"
+    ∷ codes "table f p x --show=exact" ∷ codes "table f p x --slack=5" ∷ codes "page f p --proof=p" ∷ codes "page f p --exact" ∷ codes "page f p --pivots=5" ∷ codes "warn f --places=6"
+    ∷ codes "warn f --exact" ∷ codes "compare f p g q --proof=p" ∷ codes "compare f p g q --slack=5" ∷ codes "reduce f --gap=5" ∷ codes "reduce f --show=file" ∷ [])
+options = refl
 
-one_file_to_check : asked (codes "check" ∷ codes "f" ∷ []) ≡ Err BadForm
-one_file_to_check = refl
+-- an option that is repeated, also in another spelling
+repeats : AllAsk (Err BadForm) (
+    codes "solve f --gap 5 --gap 5" ∷ codes "solve f --gap 5 --gap=6" ∷ codes "mps f --places 9 --places 9" ∷ codes "solve f --method=exact --method=exact" ∷ codes "check f --proof=p --proof=p"
+    ∷ codes "solve f --method=rounded --start=a --start=a" ∷ codes "span f R T 2020 --slack=1 --slack=1" ∷ codes "table --exact f p x --exact" ∷ [])
+repeats = refl
 
-four_files_to_check : asked (codes "check" ∷ codes "f" ∷ codes "p" ∷ codes "m" ∷ codes "x" ∷ []) ≡ Err BadForm
-four_files_to_check = refl
+-- one without its value, which no option's word is, and neither is `--`; and a flag with one, even an empty one
+values : AllAsk (Err BadForm) (
+    codes "solve f --gap" ∷ codes "solve f --gap --pivots 5" ∷ codes "solve f --pivots -5" ∷ codes "solve f --gap -- 5" ∷ codes "solve f --start --method=rounded a" ∷ codes "table f p x --gap --exact"
+    ∷ codes "table f p x --exact=true" ∷ codes "table f p x --exact=" ∷ codes "table f p x --exact true" ∷ [])
+values = refl
 
-help : asked (codes "mps" ∷ codes "--help" ∷ []) ≡ Err BadForm
-help = refl
+-- an option of the rounded method beside another one, which may be no method
+rounded_alone : AllAsk (Err BadForm) (
+    codes "curve f R CO2 x --gap=y" ∷ codes "curve f R CO2 x --gap=5 --method=exact" ∷ codes "curve f R CO2 x --gap=5 --method=fast" ∷ codes "span f R T 2020 --gap=3"
+    ∷ codes "solve f --start a" ∷ codes "solve f --method exact --start a" ∷ codes "solve f --method=fast --start=a" ∷ codes "span f R T 2020 --method=rounded --start=a" ∷ [])
+rounded_alone = refl
 
-unknown_option : asked (codes "solve" ∷ codes "f" ∷ codes "--gaps" ∷ codes "5" ∷ []) ≡ Err BadForm
-unknown_option = refl
-
-front_of_an_option : asked (codes "solve" ∷ codes "f" ∷ codes "--piv" ∷ codes "5" ∷ []) ≡ Err BadForm
-front_of_an_option = refl
-
-one_dash : asked (codes "solve" ∷ codes "f" ∷ codes "-gap" ∷ codes "5" ∷ []) ≡ Err BadForm
-one_dash = refl
-
-option_of_another_command : asked (codes "mps" ∷ codes "f" ∷ codes "--gap" ∷ codes "5" ∷ []) ≡ Err BadForm
-option_of_another_command = refl
-
-option_of_solve_at_make : asked (codes "make" ∷ codes "7" ∷ codes "--pivots" ∷ codes "5" ∷ []) ≡ Err BadForm
-option_of_solve_at_make = refl
-
-gap_at_explain : asked (codes "explain" ∷ codes "f" ∷ codes "--gap" ∷ codes "5" ∷ []) ≡ Err BadForm
-gap_at_explain = refl
-
-two_files_to_explain : asked (codes "explain" ∷ codes "f" ∷ codes "g" ∷ []) ≡ Err BadForm
-two_files_to_explain = refl
-
-bad_places_of_explain : asked (codes "explain" ∷ codes "f" ∷ codes "--places" ∷ codes "7" ∷ codes "--pivots" ∷ codes "7" ∷ []) ≡ Err BadNumber
-bad_places_of_explain = refl
-
-repeated_option : asked (codes "solve" ∷ codes "f" ∷ codes "--gap" ∷ codes "5" ∷ codes "--gap" ∷ codes "5" ∷ []) ≡ Err BadForm
-repeated_option = refl
-
-repeated_in_another_spelling : asked (codes "solve" ∷ codes "f" ∷ codes "--gap" ∷ codes "5" ∷ codes "--gap=6" ∷ []) ≡ Err BadForm
-repeated_in_another_spelling = refl
-
-option_without_value : asked (codes "solve" ∷ codes "f" ∷ codes "--gap" ∷ []) ≡ Err BadForm
-option_without_value = refl
-
--- an option's word is never the value of the one before it
-option_for_a_value : asked (codes "solve" ∷ codes "f" ∷ codes "--gap" ∷ codes "--pivots" ∷ codes "5" ∷ []) ≡ Err BadForm
-option_for_a_value = refl
-
-negative_for_a_value : asked (codes "solve" ∷ codes "f" ∷ codes "--pivots" ∷ codes "-5" ∷ []) ≡ Err BadForm
-negative_for_a_value = refl
-
--- nor is `--`
-end_for_a_value : asked (codes "solve" ∷ codes "f" ∷ codes "--gap" ∷ codes "--" ∷ codes "5" ∷ []) ≡ Err BadForm
-end_for_a_value = refl
-
-form_before_number : asked (codes "make" ∷ codes "2" ∷ codes "--show" ∷ []) ≡ Err BadForm
-form_before_number = refl
+-- the form comes before numbers and what is shown
+form_first : AllAsk (Err BadForm) (codes "make 2 --show" ∷ codes "warn f --places=7" ∷ codes "table f p x --exact --exact --places=7" ∷ codes "page f --places=7" ∷ codes "reduce f g --places=7" ∷ [])
+form_first = refl
 
 -- ---- `--` and `-`
 
-file_after_end : asked (codes "mps" ∷ codes "--" ∷ codes "-f" ∷ []) ≡ Ok (Mps (codes "-f") 6)
-file_after_end = refl
+-- after `--` no word is an option, and a second one is a file; `-` is the name of a file, and so is the empty word
+ends : Ask (
+    (codes "mps -- -f", Mps (codes "-f") 6) ∷
+    (codes "check f p -- --gap", Check (codes "f") (codes "p") (Some (codes "--gap")) 0 6) ∷
+    (codes "mps -- --", Mps (codes "--") 6) ∷
+    (codes "mps f --", Mps (codes "f") 6) ∷
+    (codes "table --exact -- f --exact x", Table (codes "f") (codes "--exact") (codes "x") true 0 6) ∷
+    (codes "warn -- --gap=5", Warn (codes "--gap=5")) ∷
+    (codes "mps -", Mps (codes "-") 6) ∷
+    (codes "mps ", Mps [] 6) ∷ [])
+ends = refl
 
--- no word is an option there
-option_after_end : asked (codes "check" ∷ codes "f" ∷ codes "p" ∷ codes "--" ∷ codes "--gap" ∷ []) ≡ Ok (Check (codes "f") (codes "p") (Some (codes "--gap")) 0 6)
-option_after_end = refl
+-- ---- values
 
--- a second `--` is a file
-second_end : asked (codes "mps" ∷ codes "--" ∷ codes "--" ∷ []) ≡ Ok (Mps (codes "--") 6)
-second_end = refl
+numbers : Ask (
+    (codes "solve f --gap 1000000", Solve (codes "f") 1000000 20000 6 Report Exact) ∷
+    (codes "solve f --gap 0000001", Solve (codes "f") 1 20000 6 Report Exact) ∷
+    (codes "solve f --pivots 0", Solve (codes "f") 0 0 6 Report Exact) ∷
+    (codes "solve f --pivots 1000000", Solve (codes "f") 0 1000000 6 Report Exact) ∷
+    (codes "make 003", Make 3 File) ∷ [])
+numbers = refl
 
-end_at_the_end : asked (codes "mps" ∷ codes "f" ∷ codes "--" ∷ []) ≡ Ok (Mps (codes "f") 6)
-end_at_the_end = refl
+-- a value may be empty, and begins after the first '='
+bad_numbers : AllAsk (Err BadNumber) (
+    codes "solve f --gap -" ∷ codes "solve f --gap " ∷ codes "solve f --gap=" ∷ codes "solve f --pivots=-5" ∷ codes "solve f --pivots +5" ∷ codes "solve f --pivots 1e3" ∷ codes "solve f --gap=5=5"
+    ∷ codes "solve f --gap 1000001" ∷ codes "solve f --gap 00000001" ∷ codes "solve f --pivots 1000001" ∷ codes "span f R T 2020 --slack=1000001" ∷ codes "make 2" ∷ codes "make 123" ∷ codes "make 0003"
+    ∷ codes "mps f --places 7" ∷ codes "mps f --places 09" ∷ codes "check f --proof=p --gap=1000001" ∷ codes "reduce f --places=7" ∷ [])
+bad_numbers = refl
 
-end_alone : asked (codes "mps" ∷ codes "--" ∷ []) ≡ Err BadForm
-end_alone = refl
+-- numbers come before what is shown, the method and a gap alone
+numbers_first : AllAsk (Err BadNumber) (
+    codes "make 2 --show all" ∷ codes "solve f --show all --pivots x" ∷ codes "solve f --show all --places 7" ∷ codes "check f p --gap 5 --places 7" ∷ codes "check f p --gap x"
+    ∷ codes "solve f --method simplex --pivots=x" ∷ codes "explain f --method=fast --places=8" ∷ codes "compare f p g q --show=all --places=7" ∷ codes "solve f --method=rounded --start=a --gap=1000001 --show=all" ∷ [])
+numbers_first = refl
 
-end_with_equals : asked (codes "mps" ∷ codes "f" ∷ codes "--=5" ∷ []) ≡ Err BadForm
-end_with_equals = refl
+-- and so do limits
+limits_first : AllAsk (Err BadNumber) (codes "curve f R CO2 7,4" ∷ codes "curve f R CO2 x --method=fast" ∷ codes "curve f R CO2 x --gap=5 --method=rounded" ∷ [])
+unfolding limit_of all_of number_of numerator denominator
+limits_first = refl
 
--- `-` is the name of a file
-dash_alone : asked (codes "mps" ∷ codes "-" ∷ []) ≡ Ok (Mps (codes "-") 6)
-dash_alone = refl
+bad_shows : AllAsk (Err BadShow) (
+    codes "solve f --show all" ∷ codes "solve f --show=lines" ∷ codes "solve f --show=page" ∷ codes "make 7 --show report" ∷ codes "make 7 --show=" ∷ codes "make 3 --show=line" ∷ codes "compare f p g q --show=report"
+    ∷ codes "compare f p g q --show=Page" ∷ codes "solve f --method simplex" ∷ codes "explain f --method=fast" ∷ codes "solve f --method=rounded --start=a --show=all" ∷ [])
+bad_shows = refl
 
-dash_for_a_value : asked (codes "solve" ∷ codes "f" ∷ codes "--gap" ∷ codes "-" ∷ []) ≡ Err BadNumber
-dash_for_a_value = refl
-
-file_without_a_name : asked (codes "mps" ∷ [] ∷ []) ≡ Ok (Mps [] 6)
-file_without_a_name = refl
-
--- ---- numbers
-
--- the value of an option may be the empty text
-empty_value : asked (codes "solve" ∷ codes "f" ∷ codes "--gap" ∷ [] ∷ []) ≡ Err BadNumber
-empty_value = refl
-
-empty_value_joined : asked (codes "solve" ∷ codes "f" ∷ codes "--gap=" ∷ []) ≡ Err BadNumber
-empty_value_joined = refl
-
-negative_number : asked (codes "solve" ∷ codes "f" ∷ codes "--pivots=-5" ∷ []) ≡ Err BadNumber
-negative_number = refl
-
-number_with_sign : asked (codes "solve" ∷ codes "f" ∷ codes "--pivots" ∷ codes "+5" ∷ []) ≡ Err BadNumber
-number_with_sign = refl
-
-number_with_exponent : asked (codes "solve" ∷ codes "f" ∷ codes "--pivots" ∷ codes "1e3" ∷ []) ≡ Err BadNumber
-number_with_exponent = refl
-
--- the value begins after the first '='
-second_equals : asked (codes "solve" ∷ codes "f" ∷ codes "--gap=5=5" ∷ []) ≡ Err BadNumber
-second_equals = refl
-
-greatest_gap : asked (codes "solve" ∷ codes "f" ∷ codes "--gap" ∷ codes "1000000" ∷ []) ≡ Ok (Solve (codes "f") 1000000 20000 6 Report Exact)
-greatest_gap = refl
-
-gap_too_great : asked (codes "solve" ∷ codes "f" ∷ codes "--gap" ∷ codes "1000001" ∷ []) ≡ Err BadNumber
-gap_too_great = refl
-
-seven_digits : asked (codes "solve" ∷ codes "f" ∷ codes "--gap" ∷ codes "0000001" ∷ []) ≡ Ok (Solve (codes "f") 1 20000 6 Report Exact)
-seven_digits = refl
-
-eight_digits : asked (codes "solve" ∷ codes "f" ∷ codes "--gap" ∷ codes "00000001" ∷ []) ≡ Err BadNumber
-eight_digits = refl
-
-no_pivots : asked (codes "solve" ∷ codes "f" ∷ codes "--pivots" ∷ codes "0" ∷ []) ≡ Ok (Solve (codes "f") 0 0 6 Report Exact)
-no_pivots = refl
-
-most_pivots : asked (codes "solve" ∷ codes "f" ∷ codes "--pivots" ∷ codes "1000000" ∷ []) ≡ Ok (Solve (codes "f") 0 1000000 6 Report Exact)
-most_pivots = refl
-
-too_many_pivots : asked (codes "solve" ∷ codes "f" ∷ codes "--pivots" ∷ codes "1000001" ∷ []) ≡ Err BadNumber
-too_many_pivots = refl
-
-least_size : asked (codes "make" ∷ codes "003" ∷ []) ≡ Ok (Make 3 File)
-least_size = refl
-
-size_too_small : asked (codes "make" ∷ codes "2" ∷ []) ≡ Err BadNumber
-size_too_small = refl
-
-size_too_great : asked (codes "make" ∷ codes "123" ∷ []) ≡ Err BadNumber
-size_too_great = refl
-
-four_digits : asked (codes "make" ∷ codes "0003" ∷ []) ≡ Err BadNumber
-four_digits = refl
-
-number_before_show : asked (codes "make" ∷ codes "2" ∷ codes "--show" ∷ codes "all" ∷ []) ≡ Err BadNumber
-number_before_show = refl
-
-pivots_before_show : asked (codes "solve" ∷ codes "f" ∷ codes "--show" ∷ codes "all" ∷ codes "--pivots" ∷ codes "x" ∷ []) ≡ Err BadNumber
-pivots_before_show = refl
-
--- ---- the decimal places of written factors: 6 or 9
-
-nine_places : asked (codes "mps" ∷ codes "--places" ∷ codes "9" ∷ codes "f" ∷ []) ≡ Ok (Mps (codes "f") 9)
-nine_places = refl
-
-six_places : asked (codes "mps" ∷ codes "f" ∷ codes "--places=6" ∷ []) ≡ Ok (Mps (codes "f") 6)
-six_places = refl
-
-seven_places : asked (codes "mps" ∷ codes "f" ∷ codes "--places" ∷ codes "7" ∷ []) ≡ Err BadNumber
-seven_places = refl
-
-places_with_zero : asked (codes "mps" ∷ codes "f" ∷ codes "--places" ∷ codes "09" ∷ []) ≡ Err BadNumber
-places_with_zero = refl
-
-places_twice : asked (codes "mps" ∷ codes "f" ∷ codes "--places" ∷ codes "9" ∷ codes "--places" ∷ codes "9" ∷ []) ≡ Err BadForm
-places_twice = refl
-
-places_to_check : asked (codes "check" ∷ codes "f" ∷ codes "p" ∷ codes "--places" ∷ codes "9" ∷ []) ≡ Ok (Check (codes "f") (codes "p") None 0 9)
-places_to_check = refl
-
-places_to_solve : asked (codes "solve" ∷ codes "f" ∷ codes "--places=9" ∷ codes "--pivots=7" ∷ []) ≡ Ok (Solve (codes "f") 0 7 9 Report Exact)
-places_to_solve = refl
-
-places_to_make : asked (codes "make" ∷ codes "7" ∷ codes "--places" ∷ codes "9" ∷ []) ≡ Err BadForm
-places_to_make = refl
-
-places_before_show : asked (codes "solve" ∷ codes "f" ∷ codes "--show" ∷ codes "all" ∷ codes "--places" ∷ codes "7" ∷ []) ≡ Err BadNumber
-places_before_show = refl
-
-places_before_gap_alone : asked (codes "check" ∷ codes "f" ∷ codes "p" ∷ codes "--gap" ∷ codes "5" ∷ codes "--places" ∷ codes "7" ∷ []) ≡ Err BadNumber
-places_before_gap_alone = refl
-
--- ---- words after `--show`, and a gap alone
-
-unknown_show : asked (codes "solve" ∷ codes "f" ∷ codes "--show" ∷ codes "all" ∷ []) ≡ Err BadShow
-unknown_show = refl
-
--- the method comes after what is shown
-unknown_method : asked (codes "solve" ∷ codes "f" ∷ codes "--method" ∷ codes "simplex" ∷ []) ≡ Err BadShow
-unknown_method = refl
-
-unknown_method_and_number : asked (codes "solve" ∷ codes "f" ∷ codes "--method" ∷ codes "simplex" ∷ codes "--pivots=x" ∷ []) ≡ Err BadNumber
-unknown_method_and_number = refl
-
-method_of_another_command : asked (codes "check" ∷ codes "f" ∷ codes "g" ∷ codes "--method=exact" ∷ []) ≡ Err BadForm
-method_of_another_command = refl
-
-method_twice : asked (codes "solve" ∷ codes "f" ∷ codes "--method=exact" ∷ codes "--method=exact" ∷ []) ≡ Err BadForm
-method_twice = refl
-
--- the rounded method keeps a gap of 10 millionths, unless another is given
-rounded_method : asked (codes "solve" ∷ codes "f" ∷ codes "--method" ∷ codes "rounded" ∷ []) ≡ Ok (Solve (codes "f") 10 20000 6 Report Rounded)
-rounded_method = refl
-
-rounded_with_a_gap : asked (codes "solve" ∷ codes "--method=rounded" ∷ codes "f" ∷ codes "--gap=0" ∷ []) ≡ Ok (Solve (codes "f") 0 20000 6 Report Rounded)
-rounded_with_a_gap = refl
-
-exact_by_its_word : asked (codes "solve" ∷ codes "f" ∷ codes "--method=exact" ∷ codes "--gap=3" ∷ []) ≡ Ok (Solve (codes "f") 3 20000 6 Report Exact)
-exact_by_its_word = refl
-
-show_of_another_command : asked (codes "make" ∷ codes "7" ∷ codes "--show" ∷ codes "report" ∷ []) ≡ Err BadShow
-show_of_another_command = refl
-
-empty_show : asked (codes "make" ∷ codes "7" ∷ codes "--show=" ∷ []) ≡ Err BadShow
-empty_show = refl
-
-gap_alone : asked (codes "check" ∷ codes "f" ∷ codes "p" ∷ codes "--gap" ∷ codes "5" ∷ []) ≡ Err GapAlone
-gap_alone = refl
-
-gap_0_alone : asked (codes "check" ∷ codes "f" ∷ codes "p" ∷ codes "--gap" ∷ codes "0" ∷ []) ≡ Err GapAlone
-gap_0_alone = refl
-
-number_before_gap_alone : asked (codes "check" ∷ codes "f" ∷ codes "p" ∷ codes "--gap" ∷ codes "x" ∷ []) ≡ Err BadNumber
-number_before_gap_alone = refl
+gaps_alone : AllAsk (Err GapAlone) (codes "check f p --gap 5" ∷ codes "check f p --gap 0" ∷ [])
+gaps_alone = refl
 
 -- ---- parts and how they are spelled
 
--- a value in a word of its own or joined, a file, and a file after `--` that looks like an option
-mixed_parts : parts_of (codes "--gap" ∷ codes "5" ∷ codes "f" ∷ codes "--show=" ∷ codes "--" ∷ codes "--gap" ∷ [])
-    ≡ Some (Chosen Gap (codes "5") ∷ parts.File (codes "f") ∷ Chosen Show [] ∷ parts.File (codes "--gap") ∷ [])
+-- a value in a word of its own or joined, a flag, a file, and a file after `--` that looks like an option
+mixed_parts : parts_of (words_in (codes "--gap 5 --exact f --show= -- --gap"))
+    ≡ Some (Chosen (codes "gap") (codes "5") ∷ Chosen (codes "exact") (codes "true") ∷ parts.File (codes "f") ∷ Chosen (codes "show") [] ∷ parts.File (codes "--gap") ∷ [])
 mixed_parts = refl
 
-spelled : Spells (codes "--gap" ∷ codes "5" ∷ codes "f" ∷ codes "--show=" ∷ codes "--" ∷ codes "--gap" ∷ [])
-    (Chosen Gap (codes "5") ∷ parts.File (codes "f") ∷ Chosen Show [] ∷ parts.File (codes "--gap") ∷ [])
+spelled : Spells (words_in (codes "--gap 5 --exact f --show= -- --gap"))
+    (Chosen (codes "gap") (codes "5") ∷ Chosen (codes "exact") (codes "true") ∷ parts.File (codes "f") ∷ Chosen (codes "show") [] ∷ parts.File (codes "--gap") ∷ [])
 spelled = record {
-  spellings = Apart Gap (codes "5") ∷ Name (codes "f") ∷ Joined Show [] ∷ [];
+  spellings = Apart (codes "gap") (codes "5") ∷ Flag (codes "exact") ∷ Name (codes "f") ∷ Joined (codes "show") [] ∷ [];
   files = Some (codes "--gap" ∷ []);
   right = refl;
   spelled = refl;
   said = refl;
 }
 
--- an option without its value has no parts, and an option after `--` is a file
-no_value : parts_of (codes "f" ∷ codes "--gap" ∷ []) ≡ None
-no_value = refl
+-- an option without its value has no parts, and neither has a flag's word that is cut short or goes on
+no_parts : map (λ line. parts_of (words_in line)) (codes "f --gap" ∷ codes "--exac" ∷ codes "--exactly" ∷ []) ≡ None ∷ None ∷ None ∷ []
+no_parts = refl
 
--- ---- the files of a request
+-- ---- the files of a request: the members' names are none
 
-files_of_check : names_of (Check (codes "f") (codes "p") (Some (codes "m")) 0 6) ≡ codes "f" ∷ codes "p" ∷ codes "m" ∷ []
-files_of_check = refl
+files : map names_of (
+    Check (codes "f") (codes "p") (Some (codes "m")) 0 6 ∷ SolveFrom (codes "f") (codes "a") 10 20000 6 Report ∷ Curve (codes "f") (codes "R") (codes "CO2") [] 0 7 6 Exact
+    ∷ Span (codes "f") (codes "R") (codes "T") (codes "2020") 0 0 7 6 Exact ∷ Make 3 File ∷ Compare (codes "f") (codes "p") (codes "g") (codes "q") 0 6 compare.Text ∷ [])
+    ≡ (codes "f" ∷ codes "p" ∷ codes "m" ∷ []) ∷ (codes "f" ∷ codes "a" ∷ []) ∷ (codes "f" ∷ []) ∷ (codes "f" ∷ []) ∷ [] ∷ (codes "f" ∷ codes "p" ∷ codes "g" ∷ codes "q" ∷ []) ∷ []
+files = refl
 
-files_of_explain : names_of (Explain (codes "f") 7 6 Exact) ≡ codes "f" ∷ []
-files_of_explain = refl
+-- ---- limits, in billionths
 
-files_of_solve : names_of (Solve (codes "f") 0 7 6 Report Exact) ≡ codes "f" ∷ []
-files_of_solve = refl
+negative_number : number_in (codes "-2.5e7") ≡ Some (record { sign = Minus; whole = codes "2"; fraction = Some (codes "5"); exponent = Some (record { capital = false; sign = Bare; digits = codes "7" }) })
+negative_number = refl
 
-no_file_of_make : names_of (Make 3 File) ≡ []
-no_file_of_make = refl
+-- a point alone, a power of ten without digits, and a blank are no numbers
+no_numbers : map number_in (codes "." ∷ codes "1e" ∷ codes " 1" ∷ []) ≡ None ∷ None ∷ None ∷ []
+no_numbers = refl
+
+-- a sign may stand, also a minus before 0
+limits : map limits_of (codes "4,7.5,2e1" ∷ codes "-0,+4" ∷ codes "1,1.000000001" ∷ codes "1e15" ∷ [])
+    ≡ Some (pos 4000000000 ∷ pos 7500000000 ∷ pos 20000000000 ∷ []) ∷ Some (pos 0 ∷ pos 4000000000 ∷ []) ∷ Some (pos 1000000000 ∷ pos 1000000001 ∷ []) ∷ Some (pos 1000000000000000000000000 ∷ []) ∷ []
+unfolding limit_of all_of number_of numerator denominator
+limits = refl
+
+-- too great, rounded, negative, descending, equal, empty, with a comma at the end, and too many
+no_limits : map limits_of (
+    codes "1000000000000000.000000001" ∷ codes "1e-10" ∷ codes "-1,4" ∷ codes "7,4" ∷ codes "4,4.0" ∷ [] ∷ codes "4," ∷ codes "0,1,2,3,4,5,6,7,8,9,10,11,12,13,14,15,16,17,18,19,20" ∷ [])
+    ≡ None ∷ None ∷ None ∷ None ∷ None ∷ None ∷ None ∷ None ∷ []
+unfolding limit_of all_of number_of numerator denominator
+no_limits = refl

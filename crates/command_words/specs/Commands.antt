@@ -2,10 +2,8 @@
 use Rattle.std.specs.Prelude.{Result, Ok, Err, option_map}
 use Rattle.command_words.specs.declared.command.Command.{Command}
 use Rattle.command_words.specs.declared.command.Command.TheVariants as code
-use Rattle.command_words.specs.declared.command.CommandName.{CommandName as CodeName}
-use Rattle.command_words.specs.declared.command.CommandName.TheVariants as names
 use Rattle.command_words.specs.declared.fault.WordFault.{WordFault}
-use Rattle.command_words.specs.Words.{Request, Mps, Check, CheckProof, Solve, SolveFrom, Explain, Curve, Span, Make, Table, Page, Warn, Compare, Reduce, CommandName, MpsName, CheckName, SolveName, ExplainName, CurveName, SpanName, MakeName, TableName, PageName, WarnName, CompareName, ReduceName}
+use Rattle.command_words.specs.Words.{Request, Mps, Check, CheckProof, Solve, SolveFrom, Explain, Curve, Span, Make, Table, Page, Warn, Compare, Reduce}
 
 -- the request of a command, without where the names of its files lie in memory
 abbrev pub request_of : Command → Request
@@ -28,18 +26,3 @@ request_of (code.Reduce file places) = Reduce file.now places
 abbrev pub request_of_result : Result Command WordFault → Result Request WordFault
 request_of_result (Ok command) = Ok (request_of command)
 request_of_result (Err fault) = Err fault
-
--- a command's name
-abbrev pub name_of : CodeName → CommandName
-name_of names.Mps = MpsName
-name_of names.Check = CheckName
-name_of names.Solve = SolveName
-name_of names.Explain = ExplainName
-name_of names.Curve = CurveName
-name_of names.Span = SpanName
-name_of names.Make = MakeName
-name_of names.Table = TableName
-name_of names.Page = PageName
-name_of names.Warn = WarnName
-name_of names.Compare = CompareName
-name_of names.Reduce = ReduceName

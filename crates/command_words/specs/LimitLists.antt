@@ -1,6 +1,6 @@
 -- Lists of limits: numbers of the data section, separated by commas and strictly ascending.
-use Rattle.std.specs.Prelude.{◌≡◌, ℕ, ◌≤◌, ◌≤ℤ◌, ◌^◌, ℤ, pos, unsigned_abs, Bool, true, false, ◌==◌, ◌&&◌, nat_le, int_le, int_lt, List, [], ◌∷◌, length, Option, Some, None, Result, Ok, Err, if◌then◌else◌}
-use Rattle.std.specs.List.{AllByRecursion, slice_split}
+use Rattle.std.specs.Prelude.{◌≡◌, ℕ, ◌≤◌, ◌≤ℤ◌, ◌^◌, ℤ, pos, unsigned_abs, Bool, true, false, ◌==◌, ◌&&◌, nat_le, int_le, int_lt, List, [], ◌∷◌, drop, length, Option, Some, None, Result, Ok, Err, if◌then◌else◌}
+use Rattle.std.specs.List.{AllByRecursion, list_all, slice_split, zip}
 use Rattle.std.specs.Option.{option_and_then, option_map}
 use Rattle.scaled_decimals.specs.declared.reading.DecFault.{DecFault}
 use Rattle.scaled_decimals.specs.DecimalReading.{decimal_of}
@@ -22,10 +22,8 @@ all_of read [] = Some []
 all_of read (x ∷ xs) = option_and_then (λ first. option_map (λ others. first ∷ others) (all_of read xs)) (read x)
 
 -- each number is below the next
-unfoldable pub is_ascending : List ℤ → Bool
-is_ascending [] = true
-is_ascending (x ∷ []) = true
-is_ascending (x ∷ y ∷ zs) = int_lt x y && is_ascending (y ∷ zs)
+abbrev pub is_ascending : List ℤ → Bool
+is_ascending limits = list_all (λ (limit, next). int_lt limit next) (zip limits (drop 1 limits))
 
 -- the texts between commas
 abbrev pub between_commas : List ℕ → List (List ℕ)

@@ -1,17 +1,13 @@
 // The commands with their files and options.
-ghost use Rattle.std.specs.Prelude.{◌≡◌, IfOk, map, option_map};
+ghost use Rattle.std.specs.Prelude.{◌≡◌, IfOk, map};
 ghost use Rattle.std.specs.String.{string_bytes};
-ghost use Rattle.command_words.specs.Words.{command_named, asked};
-ghost use Rattle.command_words.specs.Commands.{request_of_result, name_of};
-ghost use Rattle.command_words.specs.WordReading.{given_of, command_by};
+ghost use Rattle.command_words.specs.Words.{asked};
+ghost use Rattle.command_words.specs.Commands.{request_of_result};
 
 use crate::fault::WordFault;
-use crate::forms::{
-    check_given, compare_given, curve_given, explain_given, make_given, mps_given, page_given,
-    reduce_given, solve_given, span_given, table_given, warn_given,
-};
-use crate::options::is_allowed;
-use crate::parsing::{Given, read_given};
+use crate::forms::{FORMS, form_in, is_command_in};
+use crate::making::command_by;
+use crate::parsing::parse;
 use std::alloc::{AllocError, Global};
 
 /// A command with its files and options. `places` is how many decimal places written factors have: 6 or 9. `gap` is in millionths
@@ -169,23 +165,6 @@ pub enum MakeShow {
     Summary,
 }
 
-/// The commands by name.
-#[derive(Clone, Copy, Debug, PartialEq, Eq)]
-pub enum CommandName {
-    Mps,
-    Check,
-    Solve,
-    Explain,
-    Curve,
-    Span,
-    Make,
-    Table,
-    Page,
-    Warn,
-    Compare,
-    Reduce,
-}
-
 /// Reads the words. The first fault is answered, in this order: `NoCommand` where there
 /// is no word; `BadCommand` where the first is no command; `BadForm` where an option is unknown, is
 /// none of the command's, is repeated or has no value, the flag `--exact` has one or is repeated, `curve` or `span` has a gap without the rounded method, `solve` an answer to start from without it, or a file or another word is missing or too many;
@@ -202,86 +181,12 @@ pub fn read_command<'a>(
     let Some((first, others)) = words.split_first() else {
         return Ok(Err(WordFault::NoCommand));
     };
-    match command_named(first.as_str()) {
-        Some(name) => {
-            let given = read_given(alloc, others)?;
-            command_by(alloc, name, given)
-        }
-        None => Ok(Err(WordFault::BadCommand)),
+    let word = first.as_str();
+    if !is_command_in(&FORMS, word) {
+        return Ok(Err(WordFault::BadCommand));
     }
-}
-
-// The command of this word.
-fn command_named(word: &str) -> Option<CommandName>
-    ensures { option_map name_of result ≡ command_named word.now }
-{
-    if word == "mps" {
-        Some(CommandName::Mps)
-    } else if word == "check" {
-        Some(CommandName::Check)
-    } else if word == "solve" {
-        Some(CommandName::Solve)
-    } else if word == "explain" {
-        Some(CommandName::Explain)
-    } else if word == "curve" {
-        Some(CommandName::Curve)
-    } else if word == "span" {
-        Some(CommandName::Span)
-    } else if word == "make" {
-        Some(CommandName::Make)
-    } else if word == "table" {
-        Some(CommandName::Table)
-    } else if word == "page" {
-        Some(CommandName::Page)
-    } else if word == "warn" {
-        Some(CommandName::Warn)
-    } else if word == "compare" {
-        Some(CommandName::Compare)
-    } else if word == "reduce" {
-        Some(CommandName::Reduce)
-    } else {
-        None
-    }
-}
-
-// The command with what the words after it give, if they give anything.
-fn command_by<'a>(
-    alloc: Global,
-    name: CommandName,
-    given: Option<Given<'a>>,
-) -> Result<Result<Command<'a>, WordFault>, AllocError>
-    ensures { IfOk result (λ answer. request_of_result answer
-        ≡ command_by (name_of name) (option_map given_of given.entry)) }
-{
-    match given {
-        Some(given) => command_given(alloc, name, &given),
-        None => Ok(Err(WordFault::BadForm)),
-    }
-}
-
-fn command_given<'a>(
-    alloc: Global,
-    name: CommandName,
-    given: &Given<'a>,
-) -> Result<Result<Command<'a>, WordFault>, AllocError>
-    ensures { IfOk result (λ answer. request_of_result answer
-        ≡ command_by (name_of name) (Some (given_of given.now))) }
-{
-    if !is_allowed(name, given) {
+    let Some(given) = parse(alloc, others)? else {
         return Ok(Err(WordFault::BadForm));
-    }
-    match name {
-        CommandName::Mps => Ok(mps_given(given)),
-        CommandName::Check => Ok(check_given(given)),
-        CommandName::Solve => Ok(solve_given(given)),
-        CommandName::Explain => Ok(explain_given(given)),
-        CommandName::Curve => curve_given(alloc, given),
-        CommandName::Span => Ok(span_given(given)),
-        CommandName::Make => Ok(make_given(given)),
-        CommandName::Table => Ok(table_given(given)),
-        CommandName::Page => Ok(page_given(given)),
-        CommandName::Warn => Ok(warn_given(given)),
-        CommandName::Compare => Ok(compare_given(given)),
-        CommandName::Reduce => Ok(reduce_given(given)),
-    }
+    };
+    command_by(alloc, form_in(&FORMS, word, &given), &given)
 }

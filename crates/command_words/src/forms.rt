@@ -1,425 +1,145 @@
-// The form of each command: its files, and the values of its options.
-ghost use Rattle.std.specs.Prelude.{◌≡◌, IfOk, option_map};
-ghost use Rattle.command_words.specs.Words.{MpsName, CheckName, SolveName, ExplainName, CurveName, SpanName, MakeName, TableName, PageName, WarnName, CompareName, ReduceName, check_of, check_proof_of, compare_of, curve_of, mps_of, page_of, reduce_of, solve_from_of, solve_of, span_of, table_of};
-ghost use Rattle.command_words.specs.Commands.{request_of_result};
-ghost use Rattle.command_words.specs.WordReading.{given_of, command_given};
+// The forms of the commands: the one table of them, and which of them fits what is given.
+ghost use Rattle.std.specs.Prelude.{◌≡◌, map};
+ghost use Rattle.std.specs.List.{list_all, list_any};
+ghost use Rattle.std.specs.Str.{bytes_eq};
+ghost use Rattle.command_words.specs.ClapWords.{given_of};
+ghost use Rattle.command_words.specs.Forms.{described, fits, form_in, is_among, suits, texts_of};
 
-use crate::command::{Command, SolveMethod};
-use crate::fault::WordFault;
-use crate::limits::limits_of;
-use crate::parsing::Given;
-use crate::values::{
-    compare_show_of, gap_for, gap_of, make_show_of, method_of, pivots_of, places_of, size_of,
-    solve_show_of,
-};
-use std::alloc::{AllocError, Global};
+use crate::parsing::{value_of, word_count};
+use crate::values::asks_for_rounded;
+use clap::ArgMatches;
 
-pub fn mps_given<'a>(given: &Given<'a>) -> Result<Command<'a>, WordFault>
-    ensures { request_of_result result ≡ command_given MpsName (given_of given.now) }
-{
-    match given.files.as_slice() {
-        [file] => mps(*file, given.places),
-        _ => Err(WordFault::BadForm),
-    }
+/// The forms by name. Two forms of one word are told apart by what is given.
+#[derive(Clone, Copy, Debug, PartialEq, Eq)]
+pub enum FormName {
+    Mps,
+    Check,
+    CheckProof,
+    Solve,
+    SolveFrom,
+    Explain,
+    Curve,
+    Span,
+    Make,
+    Table,
+    Page,
+    Warn,
+    Compare,
+    Reduce,
 }
 
-fn mps<'a>(file: &'a str, places: Option<&'a str>) -> Result<Command<'a>, WordFault>
-    ensures { request_of_result result
-        ≡ mps_of file.entry.now (option_map (λ value. value.now) places.entry) }
+/// An option's name, and whether it has a value: a flag has none.
+pub type OptionEntry = (&'static str, bool);
+
+/// The options of all commands.
+pub const OPTIONS: [OptionEntry; 9] = [
+    ("gap", true),
+    ("pivots", true),
+    ("places", true),
+    ("show", true),
+    ("method", true),
+    ("slack", true),
+    ("proof", true),
+    ("start", true),
+    ("exact", false),
+];
+
+type Names = &'static [&'static str];
+
+/// A form: its name and its word, how many words at least and at most stand after that beside the options, the options that it may
+/// have, those that it may have beside `--method rounded` alone, and those that it needs.
+type Form = (FormName, &'static str, usize, usize, Names, Names, Names);
+
+const NONE: Names = &[];
+
+const CHECKED: Names = &["gap", "places"];
+
+const PROVED: Names = &["gap", "places", "proof"];
+
+const PROOF: Names = &["proof"];
+
+const SOLVED: Names = &["gap", "pivots", "places", "show", "method"];
+
+const START: Names = &["start"];
+
+const TRIED: Names = &["pivots", "places", "method"];
+
+const SPANNED: Names = &["pivots", "places", "method", "slack"];
+
+const TABLED: Names = &["gap", "places", "exact"];
+
+const COMPARED: Names = &["gap", "places", "show"];
+
+/// The forms of all commands. The exact method of `curve` and `span` leaves no gap between cost and bound, so `--gap` belongs to
+/// their rounded one; and `solve` begins from an answer by its rounded method alone.
+pub const FORMS: [Form; 14] = [
+    (FormName::Mps, "mps", 1, 1, &["places"], NONE, NONE),
+    (FormName::Check, "check", 2, 3, CHECKED, NONE, NONE),
+    (FormName::CheckProof, "check", 1, 1, PROVED, NONE, PROOF),
+    (FormName::Solve, "solve", 1, 1, SOLVED, NONE, NONE),
+    (FormName::SolveFrom, "solve", 1, 1, SOLVED, START, START),
+    (FormName::Explain, "explain", 1, 1, TRIED, NONE, NONE),
+    (FormName::Curve, "curve", 4, 4, TRIED, &["gap"], NONE),
+    (FormName::Span, "span", 4, 4, SPANNED, &["gap"], NONE),
+    (FormName::Make, "make", 1, 1, &["show"], NONE, NONE),
+    (FormName::Table, "table", 3, 3, TABLED, NONE, NONE),
+    (FormName::Page, "page", 2, 2, CHECKED, NONE, NONE),
+    (FormName::Warn, "warn", 1, 1, NONE, NONE, NONE),
+    (FormName::Compare, "compare", 4, 4, COMPARED, NONE, NONE),
+    (FormName::Reduce, "reduce", 1, 1, &["places"], NONE, NONE),
+];
+
+/// The word is a command's of the table.
+pub fn is_command_in(table: &[Form], word: &str) -> bool
+    ensures { result ≡ list_any (λ form. bytes_eq (described form).word word.now) table.now }
 {
-    match places_of(places) {
-        Some(places) => Ok(Command::Mps { file, places }),
-        None => Err(WordFault::BadNumber),
-    }
+    table.iter().any(|form| form.1 == word)
 }
 
-pub fn check_given<'a>(given: &Given<'a>) -> Result<Command<'a>, WordFault>
-    ensures { request_of_result result ≡ command_given CheckName (given_of given.now) }
+/// The first form of this word that fits what is given.
+pub fn form_in(table: &[Form], word: &str, given: &ArgMatches<'_>) -> Option<FormName>
+    ensures { result ≡ form_in (map described table.now) word.now (given_of given.now) }
 {
-    match (given.files.as_slice(), given.proof) {
-        ([file], Some(proof)) => check_proof(*file, proof, given.gap, given.places),
-        ([file, plan], None) => check(*file, *plan, None, given.gap, given.places),
-        ([file, plan, multipliers], None) => {
-            check(*file, *plan, Some(*multipliers), given.gap, given.places)
+    for form in table {
+        if form.1 == word && fits(form, given) {
+            return Some(form.0);
         }
-        _ => Err(WordFault::BadForm),
     }
+    None
 }
 
-fn check_proof<'a>(
-    file: &'a str,
-    proof: &'a str,
-    gap: Option<&'a str>,
-    places: Option<&'a str>,
-) -> Result<Command<'a>, WordFault>
-    ensures { request_of_result result
-        ≡ check_proof_of file.entry.now proof.entry.now (option_map (λ value. value.now) gap.entry) (option_map (λ value. value.now) places.entry) }
+// The form has so many words, and each option suits it.
+fn fits(form: &Form, given: &ArgMatches<'_>) -> bool
+    ensures { result ≡ fits (described form.now) (given_of given.now) }
 {
-    let (Some(gap), Some(places)) = (gap_of(gap), places_of(places)) else {
-        return Err(WordFault::BadNumber);
-    };
-    Ok(Command::CheckProof {
-        file,
-        proof,
-        gap,
-        places,
-    })
+    let count = word_count(given);
+    form.2 <= count && count <= form.3 && all_suit(&OPTIONS, form, given)
 }
 
-fn check<'a>(
-    file: &'a str,
-    plan: &'a str,
-    multipliers: Option<&'a str>,
-    gap: Option<&'a str>,
-    places: Option<&'a str>,
-) -> Result<Command<'a>, WordFault>
-    ensures { request_of_result result
-        ≡ check_of file.entry.now plan.entry.now
-        (option_map (λ name. name.now) multipliers.entry) (option_map (λ value. value.now) gap.entry)
-        (option_map (λ value. value.now) places.entry) }
+fn all_suit(options: &[OptionEntry], form: &Form, given: &ArgMatches<'_>) -> bool
+    ensures { result ≡ list_all (λ o. suits (described form.now) (given_of given.now) o.0.now) options.now }
 {
-    let (Some(ppm), Some(places)) = (gap_of(gap), places_of(places)) else {
-        return Err(WordFault::BadNumber);
-    };
-    if gap.is_some() && multipliers.is_none() {
-        return Err(WordFault::GapAlone);
-    }
-    Ok(Command::Check {
-        file,
-        plan,
-        multipliers,
-        gap: ppm,
-        places,
-    })
-}
-
-pub fn solve_given<'a>(given: &Given<'a>) -> Result<Command<'a>, WordFault>
-    ensures { request_of_result result ≡ command_given SolveName (given_of given.now) }
-{
-    match (given.files.as_slice(), given.start) {
-        ([file], None) => solve(*file, given),
-        ([file], Some(start)) => solve_from(*file, start, given),
-        _ => Err(WordFault::BadForm),
-    }
-}
-
-// The file that is given is this word, and there is no answer to start from.
-fn solve<'a>(file: &'a str, given: &Given<'a>) -> Result<Command<'a>, WordFault>
-    ensures { request_of_result result
-        ≡ solve_of file.entry.now (given_of given.now).gap (given_of given.now).pivots
-        (given_of given.now).places (given_of given.now).show (given_of given.now).method }
-{
-    let (Some(gap), Some(pivots), Some(places)) = (
-        gap_of(given.gap),
-        pivots_of(given.pivots),
-        places_of(given.places),
-    ) else {
-        return Err(WordFault::BadNumber);
-    };
-    let (Some(show), Some(method)) = (solve_show_of(given.show), method_of(given.method)) else {
-        return Err(WordFault::BadShow);
-    };
-    Ok(Command::Solve {
-        file,
-        gap: gap_for(method, given.gap, gap),
-        pivots,
-        places,
-        show,
-        method,
-    })
-}
-
-// The file and the answer that are given are these two words. The method is the rounded one, since `--start` is taken beside no other.
-fn solve_from<'a>(
-    file: &'a str,
-    start: &'a str,
-    given: &Given<'a>,
-) -> Result<Command<'a>, WordFault>
-    ensures { request_of_result result
-        ≡ solve_from_of file.entry.now start.entry.now (given_of given.now).gap (given_of given.now).pivots
-        (given_of given.now).places (given_of given.now).show }
-{
-    let (Some(gap), Some(pivots), Some(places)) = (
-        gap_of(given.gap),
-        pivots_of(given.pivots),
-        places_of(given.places),
-    ) else {
-        return Err(WordFault::BadNumber);
-    };
-    let Some(show) = solve_show_of(given.show) else {
-        return Err(WordFault::BadShow);
-    };
-    Ok(Command::SolveFrom {
-        file,
-        start,
-        gap: gap_for(SolveMethod::Rounded, given.gap, gap),
-        pivots,
-        places,
-        show,
-    })
-}
-
-pub fn explain_given<'a>(given: &Given<'a>) -> Result<Command<'a>, WordFault>
-    ensures { request_of_result result ≡ command_given ExplainName (given_of given.now) }
-{
-    let [file] = given.files.as_slice() else {
-        return Err(WordFault::BadForm);
-    };
-    let (Some(pivots), Some(places)) = (pivots_of(given.pivots), places_of(given.places)) else {
-        return Err(WordFault::BadNumber);
-    };
-    let Some(method) = method_of(given.method) else {
-        return Err(WordFault::BadShow);
-    };
-    Ok(Command::Explain {
-        file: *file,
-        pivots,
-        places,
-        method,
-    })
-}
-
-pub fn curve_given<'a>(
-    alloc: Global,
-    given: &Given<'a>,
-) -> Result<Result<Command<'a>, WordFault>, AllocError>
-    ensures { IfOk result (λ answer. request_of_result answer ≡ command_given CurveName (given_of given.now)) }
-{
-    match given.files.as_slice() {
-        [file, region, emission, limits] => {
-            curve(alloc, *file, *region, *emission, *limits, given)
+    for option in options {
+        if !suits(form, given, option.0) {
+            return false;
         }
-        _ => Ok(Err(WordFault::BadForm)),
+    }
+    true
+}
+
+// The option may be given, where it is, and may be left out, where it isn't.
+fn suits(form: &Form, given: &ArgMatches<'_>, name: &str) -> bool
+    ensures { result ≡ suits (described form.now) (given_of given.now) name.now }
+{
+    if value_of(given, name).is_some() {
+        is_among(name, form.4) || (is_among(name, form.5) && asks_for_rounded(given))
+    } else {
+        !is_among(name, form.6)
     }
 }
 
-// The files that are given are these four words.
-fn curve<'a>(
-    alloc: Global,
-    file: &'a str,
-    region: &'a str,
-    emission: &'a str,
-    limits: &'a str,
-    given: &Given<'a>,
-) -> Result<Result<Command<'a>, WordFault>, AllocError>
-    ensures { IfOk result (λ answer. request_of_result answer
-        ≡ curve_of file.entry.now region.entry.now emission.entry.now limits.entry.now
-        (given_of given.now).gap (given_of given.now).pivots (given_of given.now).places (given_of given.now).method) }
+fn is_among(name: &str, names: &[&str]) -> bool
+    ensures { result ≡ is_among name.now (texts_of names.entry) }
 {
-    let (Some(gap), Some(pivots), Some(places)) = (
-        gap_of(given.gap),
-        pivots_of(given.pivots),
-        places_of(given.places),
-    ) else {
-        return Ok(Err(WordFault::BadNumber));
-    };
-    let Some(limits) = limits_of(alloc, limits)? else {
-        return Ok(Err(WordFault::BadNumber));
-    };
-    let Some(method) = method_of(given.method) else {
-        return Ok(Err(WordFault::BadShow));
-    };
-    Ok(Ok(Command::Curve {
-        file,
-        region,
-        emission,
-        limits,
-        gap: gap_for(method, given.gap, gap),
-        pivots,
-        places,
-        method,
-    }))
-}
-
-pub fn span_given<'a>(given: &Given<'a>) -> Result<Command<'a>, WordFault>
-    ensures { request_of_result result ≡ command_given SpanName (given_of given.now) }
-{
-    match given.files.as_slice() {
-        [file, region, technology, year] => span(*file, *region, *technology, *year, given),
-        _ => Err(WordFault::BadForm),
-    }
-}
-
-// The files that are given are these four words.
-fn span<'a>(
-    file: &'a str,
-    region: &'a str,
-    technology: &'a str,
-    year: &'a str,
-    given: &Given<'a>,
-) -> Result<Command<'a>, WordFault>
-    ensures { request_of_result result
-        ≡ span_of file.entry.now region.entry.now technology.entry.now year.entry.now
-        (given_of given.now).gap (given_of given.now).pivots (given_of given.now).places (given_of given.now).slack (given_of given.now).method }
-{
-    let (Some(gap), Some(pivots), Some(places)) = (
-        gap_of(given.gap),
-        pivots_of(given.pivots),
-        places_of(given.places),
-    ) else {
-        return Err(WordFault::BadNumber);
-    };
-    let Some(slack) = gap_of(given.slack) else {
-        return Err(WordFault::BadNumber);
-    };
-    let Some(method) = method_of(given.method) else {
-        return Err(WordFault::BadShow);
-    };
-    Ok(Command::Span {
-        file,
-        region,
-        technology,
-        year,
-        slack,
-        gap: gap_for(method, given.gap, gap),
-        pivots,
-        places,
-        method,
-    })
-}
-
-pub fn make_given<'a>(given: &Given<'a>) -> Result<Command<'a>, WordFault>
-    ensures { request_of_result result ≡ command_given MakeName (given_of given.now) }
-{
-    let [size] = given.files.as_slice() else {
-        return Err(WordFault::BadForm);
-    };
-    let Some(size) = size_of(*size) else {
-        return Err(WordFault::BadNumber);
-    };
-    let Some(show) = make_show_of(given.show) else {
-        return Err(WordFault::BadShow);
-    };
-    Ok(Command::Make { size, show })
-}
-
-pub fn table_given<'a>(given: &Given<'a>) -> Result<Command<'a>, WordFault>
-    ensures { request_of_result result ≡ command_given TableName (given_of given.now) }
-{
-    match given.files.as_slice() {
-        [file, proof, name] => table(*file, *proof, *name, given),
-        _ => Err(WordFault::BadForm),
-    }
-}
-
-// The files that are given are these three words.
-fn table<'a>(
-    file: &'a str,
-    proof: &'a str,
-    name: &'a str,
-    given: &Given<'a>,
-) -> Result<Command<'a>, WordFault>
-    ensures { request_of_result result
-        ≡ table_of file.entry.now proof.entry.now name.entry.now
-        (given_of given.now).gap (given_of given.now).places given.now.exact }
-{
-    let (Some(gap), Some(places)) = (gap_of(given.gap), places_of(given.places)) else {
-        return Err(WordFault::BadNumber);
-    };
-    Ok(Command::Table {
-        file,
-        proof,
-        name,
-        exact: given.exact,
-        gap,
-        places,
-    })
-}
-
-pub fn page_given<'a>(given: &Given<'a>) -> Result<Command<'a>, WordFault>
-    ensures { request_of_result result ≡ command_given PageName (given_of given.now) }
-{
-    match given.files.as_slice() {
-        [file, proof] => page(*file, *proof, given.gap, given.places),
-        _ => Err(WordFault::BadForm),
-    }
-}
-
-// The files that are given are these two words.
-fn page<'a>(
-    file: &'a str,
-    proof: &'a str,
-    gap: Option<&'a str>,
-    places: Option<&'a str>,
-) -> Result<Command<'a>, WordFault>
-    ensures { request_of_result result
-        ≡ page_of file.entry.now proof.entry.now (option_map (λ value. value.now) gap.entry) (option_map (λ value. value.now) places.entry) }
-{
-    let (Some(gap), Some(places)) = (gap_of(gap), places_of(places)) else {
-        return Err(WordFault::BadNumber);
-    };
-    Ok(Command::Page {
-        file,
-        proof,
-        gap,
-        places,
-    })
-}
-
-pub fn warn_given<'a>(given: &Given<'a>) -> Result<Command<'a>, WordFault>
-    ensures { request_of_result result ≡ command_given WarnName (given_of given.now) }
-{
-    match given.files.as_slice() {
-        [file] => Ok(Command::Warn { file: *file }),
-        _ => Err(WordFault::BadForm),
-    }
-}
-
-pub fn compare_given<'a>(given: &Given<'a>) -> Result<Command<'a>, WordFault>
-    ensures { request_of_result result ≡ command_given CompareName (given_of given.now) }
-{
-    match given.files.as_slice() {
-        [first, first_proof, second, second_proof] => {
-            compare(*first, *first_proof, *second, *second_proof, given)
-        }
-        _ => Err(WordFault::BadForm),
-    }
-}
-
-// The files that are given are these four words.
-fn compare<'a>(
-    first: &'a str,
-    first_proof: &'a str,
-    second: &'a str,
-    second_proof: &'a str,
-    given: &Given<'a>,
-) -> Result<Command<'a>, WordFault>
-    ensures { request_of_result result
-        ≡ compare_of first.entry.now first_proof.entry.now second.entry.now second_proof.entry.now
-        (given_of given.now).gap (given_of given.now).places (given_of given.now).show }
-{
-    let (Some(gap), Some(places)) = (gap_of(given.gap), places_of(given.places)) else {
-        return Err(WordFault::BadNumber);
-    };
-    let Some(show) = compare_show_of(given.show) else {
-        return Err(WordFault::BadShow);
-    };
-    Ok(Command::Compare {
-        first,
-        first_proof,
-        second,
-        second_proof,
-        gap,
-        places,
-        show,
-    })
-}
-
-pub fn reduce_given<'a>(given: &Given<'a>) -> Result<Command<'a>, WordFault>
-    ensures { request_of_result result ≡ command_given ReduceName (given_of given.now) }
-{
-    match given.files.as_slice() {
-        [file] => reduce(*file, given.places),
-        _ => Err(WordFault::BadForm),
-    }
-}
-
-fn reduce<'a>(file: &'a str, places: Option<&'a str>) -> Result<Command<'a>, WordFault>
-    ensures { request_of_result result
-        ≡ reduce_of file.entry.now (option_map (λ value. value.now) places.entry) }
-{
-    match places_of(places) {
-        Some(places) => Ok(Command::Reduce { file, places }),
-        None => Err(WordFault::BadNumber),
-    }
+    names.iter().any(|one| *one == name)
 }

@@ -1,14 +1,14 @@
 //! The words of the command line: the command that they ask for, with its files and options, or what is wrong with them.
 //!
-//! `parsing` reads files and options of all commands, by `clap`; `values` the numbers and words that options have, and `limits` those of `curve`; `options` says which
-//! options a command takes, `forms` puts files and values together for each command, and `command` reads all words.
+//! `forms` has the table of options and that of forms, and says which form fits; `parsing` reads words and options, by `clap`; `values` has the numbers and words that
+//! options have, and `limits` those of `curve`; `making` makes the command of each form, and `command` reads all words.
 #![tactic(auto)]
 
 mod command;
 mod fault;
 mod forms;
 mod limits;
-mod options;
+mod making;
 mod parsing;
 mod values;
 

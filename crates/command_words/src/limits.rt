@@ -1,5 +1,5 @@
 // The limits of `curve`: numbers of the data section, separated by commas and strictly ascending.
-ghost use Rattle.std.specs.Prelude.{◌≡◌, IfOk, int_lt, map, option_map};
+ghost use Rattle.std.specs.Prelude.{◌≡◌, IfOk, map, option_map};
 ghost use Rattle.command_words.specs.LimitLists.{all_of, between_commas, exact_limit, is_ascending, limit_of, limits_of};
 ghost use Rattle.command_words.specs.LimitNumbers.{NumbersAreFound};
 
@@ -67,18 +67,13 @@ fn exact_limit(read: Result<(i128, bool), DecFault>) -> Option<i128>
 fn is_ascending(limits: &[i128]) -> bool
     ensures { result ≡ is_ascending limits.now }
 {
-    for i in 1..limits.len() {
-        if !is_below(&limits[i - 1], &limits[i]) {
-            return false;
-        }
-    }
-    true
-}
-
-fn is_below(limit: &i128, next: &i128) -> bool
-    ensures { result ≡ int_lt limit.now next.now }
-{
-    limit < next
+    let Some((_, others)) = limits.split_first() else {
+        return true;
+    };
+    limits
+        .iter()
+        .zip(others)
+        .all(|(limit, next)| *limit < *next)
 }
 
 /// The parts that are found of a number are those that spell its text, and none are found where nothing spells it.

@@ -1,71 +1,24 @@
 // The words after a command, read by `clap` as one simple command with all options of all commands.
-ghost use Rattle.std.specs.Prelude.{◌≡◌, ℕ, List, IfOk, [], codes, map, option_map, unwrap_or};
+ghost use Rattle.std.specs.Prelude.{◌≡◌, ℕ, List, IfOk, fold, length, map, option_map, slice_get};
 ghost use Rattle.std.specs.String.{string_bytes};
-ghost use Rattle.clap.specs.Words.{all_of, app_of, found_of, rows_of, with_rule};
-ghost use Rattle.command_words.specs.ClapWords.{app, clap_rows, files_only, flag_rule, option_rule};
+ghost use Rattle.clap.specs.Words.{app_of, with_rule};
+ghost use Rattle.command_words.specs.ClapWords.{app, files_only, given_of, rule_named};
+ghost use Rattle.command_words.specs.Forms.{entry_of, given_by};
 ghost use Rattle.command_words.specs.WordParts.{HasSpelledParts, Part, parts_of};
-ghost use Rattle.command_words.specs.WordReading.{given_by, given_of};
 
+use crate::forms::{OPTIONS, OptionEntry};
+use crate::values::named;
 use clap::error::ErrorKind;
 use clap::{Arg, ArgAction, ArgMatches, Command};
 use std::alloc::{AllocError, Global};
 
-/// What the words after a command give: files in their order, the values of the options, and whether the flag `--exact` is there.
-#[derive(Debug, Drop)]
-pub struct Given<'a> {
-    pub files: Vec<&'a str>,
-    pub gap: Option<&'a str>,
-    pub pivots: Option<&'a str>,
-    pub places: Option<&'a str>,
-    pub show: Option<&'a str>,
-    pub method: Option<&'a str>,
-    pub slack: Option<&'a str>,
-    pub proof: Option<&'a str>,
-    pub start: Option<&'a str>,
-    pub exact: bool,
-}
-
-/// Reads the words after a command. `None` where an option is unknown, is repeated or has no value, or the flag is repeated or has one.
-pub fn read_given<'a>(alloc: Global, words: &'a [String]) -> Result<Option<Given<'a>>, AllocError>
+/// Reads the words after a command. `None` where an option is unknown, is repeated or has no value, or a flag is repeated or has one.
+/// The texts of `clap` are never shown.
+pub fn parse<'a>(alloc: Global, words: &'a [String]) -> Result<Option<ArgMatches<'a>>, AllocError>
     ensures { IfOk result (λ answer.
         option_map given_of answer ≡ given_by (parts_of (map string_bytes words.now))) }
 {
-    let Some(matches) = parse(alloc, words)? else {
-        return Ok(None);
-    };
-    let given = Given {
-        files: files_of(alloc, &matches)?,
-        gap: matches.get_str("gap"),
-        pivots: matches.get_str("pivots"),
-        places: matches.get_str("places"),
-        show: matches.get_str("show"),
-        method: matches.get_str("method"),
-        slack: matches.get_str("slack"),
-        proof: matches.get_str("proof"),
-        start: matches.get_str("start"),
-        exact: matches.get_flag("exact"),
-    };
-    Ok(Some(given))
-}
-
-// The files that clap matched, in their order.
-fn files_of<'a>(alloc: Global, matches: &ArgMatches<'a>) -> Result<Vec<&'a str>, AllocError>
-    ensures { IfOk result (λ files. map (λ file. file.now) files.items
-        ≡ unwrap_or (all_of (codes "file") (rows_of (found_of matches.now))) []) }
-{
-    match matches.get_strs("file") {
-        Some(files) => Vec::from_slice(alloc, files),
-        None => Ok(Vec::new(alloc)),
-    }
-}
-
-// What clap matches of the words, or `None` where it refuses them. Its texts are never shown.
-fn parse<'a>(alloc: Global, words: &'a [String]) -> Result<Option<ArgMatches<'a>>, AllocError>
-    ensures { IfOk result (λ answer.
-        option_map (λ matches. rows_of (found_of matches)) answer
-        ≡ clap_rows (map string_bytes words.now)) }
-{
-    match any_options(alloc)?.try_get_matches_from(words) {
+    match any_options(alloc, &OPTIONS)?.try_get_matches_from(words) {
         Ok(matches) => Ok(Some(matches)),
         Err(error) => match error.kind() {
             ErrorKind::OutOfMemory => Err(AllocError),
@@ -74,19 +27,50 @@ fn parse<'a>(alloc: Global, words: &'a [String]) -> Result<Option<ArgMatches<'a>
     }
 }
 
-// Files in any number, and the options and the flag of all commands. Which of them a command takes is seen later.
-fn any_options<'a>(alloc: Global) -> Result<Command<'a>, AllocError>
-    ensures { IfOk result (λ command. app_of command ≡ app) }
+/// How many words there are that aren't options.
+pub fn word_count(given: &ArgMatches<'_>) -> usize
+    ensures { result ≡ length (given_of given.now).words }
 {
-    let command = with_option(alloc, with_files(alloc)?, "gap")?;
-    let command = with_option(alloc, command, "pivots")?;
-    let command = with_option(alloc, command, "places")?;
-    let command = with_option(alloc, command, "show")?;
-    let command = with_option(alloc, command, "method")?;
-    let command = with_option(alloc, command, "slack")?;
-    let command = with_option(alloc, command, "proof")?;
-    let command = with_option(alloc, command, "start")?;
-    with_flag(alloc, command, "exact")
+    match given.get_strs("file") {
+        Some(words) => words.len(),
+        None => 0,
+    }
+}
+
+/// Word i of them, counted from 0.
+pub fn word_in<'a>(given: &ArgMatches<'a>, i: usize) -> Option<&'a str>
+    ensures { option_map (λ word. word.now) result ≡ slice_get (given_of given.now).words i }
+{
+    match given.get_strs("file") {
+        Some(words) => words.get(i).copied(),
+        None => None,
+    }
+}
+
+/// The value that is given for an option; that of a flag is `true`.
+pub fn value_of<'a>(given: &ArgMatches<'a>, name: &str) -> Option<&'a str>
+    ensures { option_map (λ value. value.now) result ≡ (given_of given.now).value name.now }
+{
+    let (Some(has_value), Some(value)) = (named(&OPTIONS, name), given.get_str(name)) else {
+        return None;
+    };
+    if has_value || value == "true" {
+        Some(value)
+    } else {
+        None
+    }
+}
+
+// Files in any number, and these options. Which of them a form has is seen later.
+fn any_options<'a>(alloc: Global, options: &[OptionEntry]) -> Result<Command<'a>, AllocError>
+    ensures { IfOk result (λ command. app_of command
+        ≡ fold (λ a o. with_rule a (rule_named o)) files_only (map entry_of options.now)) }
+{
+    let mut command = with_files(alloc)?;
+    for option in options {
+        command = with_option(alloc, command, option.0, option.1)?;
+    }
+    Ok(command)
 }
 
 // Files in any number, wherever they stand. No program's name stands before the words, and there is no help.
@@ -100,26 +84,21 @@ fn with_files<'a>(alloc: Global) -> Result<Command<'a>, AllocError>
         .arg(file)
 }
 
-// The command with one more option, which has one value.
+// The command with one more option, which has one value, or is a flag and has none.
 fn with_option<'a>(
     alloc: Global,
     command: Command<'a>,
-    name: &'a str,
+    name: &'static str,
+    has_value: bool,
 ) -> Result<Command<'a>, AllocError>
-    ensures { IfOk result (λ more. app_of more ≡ with_rule (app_of command.entry) (option_rule name.entry.now)) }
+    ensures { IfOk result (λ more. app_of more ≡ with_rule (app_of command.entry) (rule_named (name.entry.now, has_value))) }
 {
-    command.arg(Arg::new(alloc, name).long(name).action(ArgAction::Set))
-}
-
-// The command with one more flag, which has no value.
-fn with_flag<'a>(
-    alloc: Global,
-    command: Command<'a>,
-    name: &'a str,
-) -> Result<Command<'a>, AllocError>
-    ensures { IfOk result (λ more. app_of more ≡ with_rule (app_of command.entry) (flag_rule name.entry.now)) }
-{
-    command.arg(Arg::new(alloc, name).long(name).action(ArgAction::SetTrue))
+    let action = if has_value {
+        ArgAction::Set
+    } else {
+        ArgAction::SetTrue
+    };
+    command.arg(Arg::new(alloc, name).long(name).action(action))
 }
 
 /// The parts of words are those that are spelled so.

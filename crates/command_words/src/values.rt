@@ -1,157 +1,119 @@
 // The values of options, and the number of `make`.
-ghost use Rattle.std.specs.Prelude.{◌≡◌, ◌≤◌, option_map};
+ghost use Rattle.std.specs.Prelude.{◌≡◌, ◌≤◌, map, option_map};
 ghost use Rattle.std.specs.Char.{is_ascii_digit};
 ghost use Rattle.std.specs.List.{list_all};
-ghost use Rattle.command_words.specs.WordValues.{number_within, gap_of, pivots_of, places_of, size_of, solve_show_of, make_show_of, compare_show_of, gap_for, method_of, usual_gap};
-ghost use Rattle.command_words.specs.Words.{asks_for_rounded};
+ghost use Rattle.command_words.specs.ClapWords.{given_of};
+ghost use Rattle.command_words.specs.Forms.{asks_for_rounded, entry_of};
+ghost use Rattle.command_words.specs.WordParts.{named};
+ghost use Rattle.command_words.specs.WordValues.{choice, number_or, number_within};
+ghost use Rattle.command_words.specs.Words.{numbers_of};
 
 use crate::command::{CompareShow, MakeShow, SolveMethod, SolveShow};
+use crate::parsing::value_of;
+use clap::ArgMatches;
 
-/// A gap or a slack in millionths, 0 where it is left out.
-pub fn gap_of(text: Option<&str>) -> Option<u32>
-    ensures { result ≡ gap_of (option_map (λ text. text.now) text.entry) }
-{
-    match text {
-        Some(text) => number_within(text, 7, 0, 1_000_000),
-        None => Some(0),
-    }
+/// The numbers of decimal places, by word.
+pub const PLACES: [(&str, u8); 2] = [("6", 6), ("9", 9)];
+
+/// What `solve` may write, by word.
+pub const SOLVE_SHOWS: [(&str, SolveShow); 5] = [
+    ("report", SolveShow::Report),
+    ("plan", SolveShow::Plan),
+    ("multipliers", SolveShow::Multipliers),
+    ("proof", SolveShow::Proof),
+    ("line", SolveShow::Line),
+];
+
+/// What `make` may write, by word.
+pub const MAKE_SHOWS: [(&str, MakeShow); 2] = [
+    ("file", MakeShow::File),
+    ("summary", MakeShow::Summary),
+];
+
+/// What `compare` may write, by word.
+pub const COMPARE_SHOWS: [(&str, CompareShow); 2] = [
+    ("text", CompareShow::Text),
+    ("page", CompareShow::Page),
+];
+
+/// The methods, by word.
+pub const METHODS: [(&str, SolveMethod); 2] = [
+    ("exact", SolveMethod::Exact),
+    ("rounded", SolveMethod::Rounded),
+];
+
+/// The numbers that options say: a gap and a slack in millionths, the most pivots, and how many decimal places written factors have.
+#[derive(Clone, Copy, Debug)]
+pub struct Numbers {
+    pub gap: u32,
+    pub pivots: u32,
+    pub places: u8,
+    pub slack: u32,
 }
 
-/// The most pivots, 20,000 where they are left out.
-pub fn pivots_of(text: Option<&str>) -> Option<u32>
-    ensures { result ≡ pivots_of (option_map (λ text. text.now) text.entry) }
+/// The numbers of the options. A gap that is left out is 0, and 10 by the rounded method.
+pub fn numbers_of(given: &ArgMatches<'_>) -> Option<Numbers>
+    ensures { result ≡ numbers_of (given_of given.now) }
 {
-    match text {
-        Some(text) => number_within(text, 7, 0, 1_000_000),
-        None => Some(20_000),
-    }
-}
-
-/// How many decimal places written factors have: 6 or 9, and 6 where it is left out.
-pub fn places_of(text: Option<&str>) -> Option<u8>
-    ensures { result ≡ places_of (option_map (λ text. text.now) text.entry) }
-{
-    let Some(text) = text else {
-        return Some(6);
+    let usual_gap = if asks_for_rounded(given) { 10 } else { 0 };
+    let (Some(gap), Some(pivots), Some(places), Some(slack)) = (
+        number_or(usual_gap, value_of(given, "gap")),
+        number_or(20_000, value_of(given, "pivots")),
+        choice(&PLACES, 6, value_of(given, "places")),
+        number_or(0, value_of(given, "slack")),
+    ) else {
+        return None;
     };
-    if text == "6" {
-        Some(6)
-    } else if text == "9" {
-        Some(9)
-    } else {
-        None
-    }
-}
-
-/// The size of a made file.
-pub fn size_of(text: &str) -> Option<u32>
-    ensures { result ≡ size_of text.now }
-{
-    number_within(text, 3, 3, 122)
-}
-
-/// What `solve` is to write, the report where it is left out.
-pub fn solve_show_of(text: Option<&str>) -> Option<SolveShow>
-    ensures { result ≡ solve_show_of (option_map (λ text. text.now) text.entry) }
-{
-    let Some(text) = text else {
-        return Some(SolveShow::Report);
-    };
-    if text == "report" {
-        Some(SolveShow::Report)
-    } else if text == "plan" {
-        Some(SolveShow::Plan)
-    } else if text == "multipliers" {
-        Some(SolveShow::Multipliers)
-    } else if text == "proof" {
-        Some(SolveShow::Proof)
-    } else if text == "line" {
-        Some(SolveShow::Line)
-    } else {
-        None
-    }
-}
-
-/// What `make` is to write, the file where it is left out.
-pub fn make_show_of(text: Option<&str>) -> Option<MakeShow>
-    ensures { result ≡ make_show_of (option_map (λ text. text.now) text.entry) }
-{
-    let Some(text) = text else {
-        return Some(MakeShow::File);
-    };
-    if text == "file" {
-        Some(MakeShow::File)
-    } else if text == "summary" {
-        Some(MakeShow::Summary)
-    } else {
-        None
-    }
-}
-
-/// What `compare` is to write, the text where it is left out.
-pub fn compare_show_of(text: Option<&str>) -> Option<CompareShow>
-    ensures { result ≡ compare_show_of (option_map (λ text. text.now) text.entry) }
-{
-    let Some(text) = text else {
-        return Some(CompareShow::Text);
-    };
-    if text == "text" {
-        Some(CompareShow::Text)
-    } else if text == "page" {
-        Some(CompareShow::Page)
-    } else {
-        None
-    }
-}
-
-/// The method that a command begins with, the exact one where it is left out.
-pub fn method_of(text: Option<&str>) -> Option<SolveMethod>
-    ensures { result ≡ method_of (option_map (λ text. text.now) text.entry) }
-{
-    let Some(text) = text else {
-        return Some(SolveMethod::Exact);
-    };
-    if text == "exact" {
-        Some(SolveMethod::Exact)
-    } else if text == "rounded" {
-        Some(SolveMethod::Rounded)
-    } else {
-        None
-    }
+    Some(Numbers {
+        gap,
+        pivots,
+        places,
+        slack,
+    })
 }
 
 /// The value of `--method` is `rounded`.
-pub fn asks_for_rounded(method: Option<&str>) -> bool
-    ensures { result ≡ asks_for_rounded (option_map (λ text. text.now) method.entry) }
+pub fn asks_for_rounded(given: &ArgMatches<'_>) -> bool
+    ensures { result ≡ asks_for_rounded (given_of given.now) }
 {
-    match method {
-        Some(text) => text == "rounded",
+    match value_of(given, "method") {
+        Some(method) => method == "rounded",
         None => false,
     }
 }
 
-/// The gap that is given, or the method's where none is, in millionths.
-pub fn gap_for(method: SolveMethod, given: Option<&str>, gap: u32) -> u32
-    ensures { result ≡ gap_for method (option_map (λ text. text.now) given.entry) gap }
+/// What the value stands for in a table of words, or what one that is left out stands for.
+pub fn choice<T: Copy>(table: &[(&str, T)], default: T, value: Option<&str>) -> Option<T>
+    ensures { result ≡ choice (map entry_of table.now) default (option_map (λ value. value.now) value.entry) }
 {
-    match given {
-        Some(_) => gap,
-        None => usual_gap(method),
+    match value {
+        Some(value) => named(table, value),
+        None => Some(default),
     }
 }
 
-// The gap that a method keeps where none is given, in millionths.
-fn usual_gap(method: SolveMethod) -> u32
-    ensures { result ≡ usual_gap method }
+/// What the word stands for in a table of words.
+pub fn named<T: Copy>(table: &[(&str, T)], word: &str) -> Option<T>
+    ensures { result ≡ named (map entry_of table.now) word.now }
 {
-    match method {
-        SolveMethod::Exact => 0,
-        SolveMethod::Rounded => 10,
+    match table.iter().find(|entry| entry.0 == word) {
+        Some(entry) => Some(entry.1),
+        None => None,
     }
 }
 
-// The whole number of 1 to `places` digits, if it is from `least` to `most`.
-fn number_within(text: &str, places: usize, least: u32, most: u32) -> Option<u32>
+// A gap or a slack in millionths, or the most pivots.
+fn number_or(default: u32, text: Option<&str>) -> Option<u32>
+    ensures { result ≡ number_or default (option_map (λ text. text.now) text.entry) }
+{
+    match text {
+        Some(text) => number_within(text, 7, 0, 1_000_000),
+        None => Some(default),
+    }
+}
+
+/// The whole number of 1 to `places` digits, if it is from `least` to `most`.
+pub fn number_within(text: &str, places: usize, least: u32, most: u32) -> Option<u32>
     requires { places ≤ 9 }
     ensures { result ≡ number_within places least most text.now }
 {
