@@ -4,10 +4,10 @@ use Rattle.std.specs.Prelude.{nat_le}
 use Rattle.std.proofs.lemmas.Bool.Decides.{nat_tests}
 use Rattle.std.proofs.Math.ListN.{get_or-eq_default}
 use Rattle.row_core.specs.declared.kind_numbers.TheConstants.{KIND_COUNT}
-use Rattle.row_core.specs.Kinds.{Kind, kinds, bounded, kind_at, kind_is_free}
+use Rattle.row_core.specs.Kinds.{Kind, kinds, kind_at, kind_is_free, no_kind}
 
 pub none_above : (kind : ℕ) → KIND_COUNT < kind → kind_is_free kind ≡ false
-none_above kind h = ap (λ (k : Kind). k.free) (get_or-eq_default kinds (bounded [] []) {n = kind - 1} (omega arith))
+none_above kind h = ap (λ (k : Kind). k.free) (get_or-eq_default kinds no_kind {n = kind - 1} (omega arith))
 
 pub none_at_zero : (kind : ℕ) → kind < 1 → kind_is_free kind ≡ false
 none_at_zero zero h = refl

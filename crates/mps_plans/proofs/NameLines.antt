@@ -7,8 +7,8 @@ use Rattle.model_sets.specs.Members.{SetLists, members}
 use Rattle.row_core.specs.declared.Index.{Index}
 use Rattle.row_core.specs.declared.RowName.{RowName}
 use Rattle.row_core.specs.declared.Var.{Var}
-use Rattle.row_core.specs.Equations.{equations, named, word_of_equation}
-use Rattle.row_core.specs.Kinds.{bounded, kinds, word_of_kind}
+use Rattle.row_core.specs.Equations.{equations, no_equation, word_of_equation}
+use Rattle.row_core.specs.Kinds.{kinds, no_kind, word_of_kind}
 use Rattle.row_core.specs.NameTexts.{full_name, member, position_at, row_name, set_of, variable_name}
 use Rattle.mps_meaning.specs.Lines.{ends_line, is_one_line}
 use Rattle.mps_plans.specs.PlanPrograms.{HaveOneLineNames}
@@ -73,10 +73,10 @@ kind_words : list_all (λ k. is_one_line k.word) kinds ≡ true
 kind_words = refl
 
 equation_word-line : (eq : ℕ) → IsOneLine (word_of_equation eq)
-equation_word-line eq = at-place (λ e. IsOneLine e.word) equations (eq - 1) (named [] []) (all-from_test (λ e. is_one_line e.word) equations equation_words) refl
+equation_word-line eq = at-place (λ e. IsOneLine e.word) equations (eq - 1) no_equation (all-from_test (λ e. is_one_line e.word) equations equation_words) refl
 
 kind_word-line : (kind : ℕ) → IsOneLine (word_of_kind kind)
-kind_word-line kind = at-place (λ k. IsOneLine k.word) kinds (kind - 1) (bounded [] []) (all-from_test (λ k. is_one_line k.word) kinds kind_words) refl
+kind_word-line kind = at-place (λ k. IsOneLine k.word) kinds (kind - 1) no_kind (all-from_test (λ k. is_one_line k.word) kinds kind_words) refl
 
 pub row_name-line : (sets : SetLists) → HaveOneLineNames sets → (n : RowName) → IsOneLine (row_name sets n)
 row_name-line sets names n = name-line sets (word_of_equation n.eq) _ n.index names (equation_word-line n.eq)

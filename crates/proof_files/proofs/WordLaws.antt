@@ -5,8 +5,8 @@ use Rattle.std.proofs.lemmas.Slice.Eq.{bytes_eq-Decides}
 use Rattle.std.specs.Prelude.{codes}
 use Rattle.std.specs.List.{list_any}
 use Rattle.std.specs.Str.{bytes_eq}
-use Rattle.row_core.specs.Kinds.{IsKind, Kind, kinds, bounded, word_of_kind}
-use Rattle.row_core.specs.Equations.{IsEquation, Equation, equations, named, word_of_equation}
+use Rattle.row_core.specs.Kinds.{IsKind, Kind, kinds, no_kind, word_of_kind}
+use Rattle.row_core.specs.Equations.{IsEquation, Equation, equations, no_equation, word_of_equation}
 
 false_true : false ≡ true → ⊥
 false_true e = cc
@@ -34,10 +34,10 @@ abbrev equation_words : List (List ℕ)
 equation_words = map (λ (equation : Equation). equation.word) equations
 
 kind_word_at : (kind : ℕ) → kind - 1 < 48 → get_or kind_words (kind - 1) [] ≡ word_of_kind kind
-kind_word_at kind below = get_or-map (λ (kind : Kind). kind.word) kinds (kind - 1) (bounded [] []) [] below
+kind_word_at kind below = get_or-map (λ (kind : Kind). kind.word) kinds (kind - 1) no_kind [] below
 
 equation_word_at : (eq : ℕ) → eq - 1 < 64 → get_or equation_words (eq - 1) [] ≡ word_of_equation eq
-equation_word_at eq below = get_or-map (λ (equation : Equation). equation.word) equations (eq - 1) (named [] []) [] below
+equation_word_at eq below = get_or-map (λ (equation : Equation). equation.word) equations (eq - 1) no_equation [] below
 
 -- the point of `Direction.`
 abbrev has_point : List ℕ → Bool
