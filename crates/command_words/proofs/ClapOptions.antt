@@ -1,5 +1,5 @@
 -- What clap makes of one word that is an option, at the command that it is given here.
-use Rattle.std.proofs.Common.{◌≡◌, ◌∙◌, ◌||◌, ◌==◌, ◌+◌, arith, take, drop, ℕ, suc, List, [], ◌∷◌, map, Option, Some, None, Bool, true, false, cond, refl, ap, sym, true≢false, length, subst, option_map}
+use Rattle.std.proofs.Common.{rules as std_rules, ◌≡◌, ◌∙◌, ◌||◌, ◌==◌, ◌+◌, arith, take, drop, ℕ, suc, List, [], ◌∷◌, map, Option, Some, None, Bool, true, false, cond, refl, ap, sym, true≢false, length, subst, option_map}
 use Rattle.std.specs.Prelude.{codes, find, slice_get, unwrap_or}
 use Rattle.std.specs.List.{AllByRecursion, list_any, before_first, after_first, position_or_len}
 use Rattle.std.specs.Char.{encode_utf8}
@@ -87,34 +87,7 @@ pub record IsOption (o : Text × Bool) : Type 0 where
   pub ends : (found : Option (List Text)) → ended o.0 options found ≡ finish o.1 found
 
 pub are_options : AllByRecursion IsOption options
-are_options = (
-  record { by_id = refl; no_file = refl; file_no = refl; ends = λ found. refl },
-  (
-    record { by_id = refl; no_file = refl; file_no = refl; ends = λ found. refl },
-    (
-      record { by_id = refl; no_file = refl; file_no = refl; ends = λ found. refl },
-      (
-        record { by_id = refl; no_file = refl; file_no = refl; ends = λ found. refl },
-        (
-          record { by_id = refl; no_file = refl; file_no = refl; ends = λ found. refl },
-          (
-            record { by_id = refl; no_file = refl; file_no = refl; ends = λ found. refl },
-            (
-              record { by_id = refl; no_file = refl; file_no = refl; ends = λ found. refl },
-              (
-                record { by_id = refl; no_file = refl; file_no = refl; ends = λ found. refl },
-                (
-                  record { by_id = refl; no_file = refl; file_no = refl; ends = λ found. refl },
-                  tt,
-                ),
-              ),
-            ),
-          ),
-        ),
-      ),
-    ),
-  ),
-)
+are_options = search std_rules
 
 -- ---- a word that is an option
 

@@ -61,7 +61,7 @@ commands : Ask (
     (codes "explain f", Explain (codes "f") 20000 6 Exact) ∷
     (codes "explain --pivots=7 f --places 9 --method=rounded", Explain (codes "f") 7 9 Rounded) ∷
     (codes "span f R T 007", Span (codes "f") (codes "R") (codes "T") (codes "007") 0 0 20000 6 Exact) ∷
-    (codes "span --slack 100000 f R T 2020 --gap=3 --method=rounded", Span (codes "f") (codes "R") (codes "T") (codes "2020") 100000 3 20000 6 Rounded) ∷
+    (codes "span --slack 100000 f R T 2020 --gap=3 --method=rounded --pivots=7 --places=9", Span (codes "f") (codes "R") (codes "T") (codes "2020") 100000 3 7 9 Rounded) ∷
     (codes "make 7", Make 7 File) ∷
     (codes "make --show summary 122", Make 122 Summary) ∷
     (codes "table f p x", Table (codes "f") (codes "p") (codes "x") false 0 6) ∷
@@ -95,7 +95,7 @@ counts = refl
 -- an option that isn't known, or is none of the command's
 options : AllAsk (Err BadForm) (
     codes "mps --help" ∷ codes "solve f --gaps 5" ∷ codes "solve f --piv 5" ∷ codes "solve f -gap 5" ∷ codes "mps f --=5" ∷ codes "mps f --gap 5" ∷ codes "mps f --exact"
-    ∷ codes "mps f --start=a" ∷ codes "check f p --method=exact" ∷ codes "check f p --start a" ∷ codes "solve f --proof=p" ∷ codes "solve --exact f" ∷ codes "solve f --slack=1"
+    ∷ codes "mps f --start=a" ∷ codes "check f p --method=exact" ∷ codes "check f p --start a" ∷ codes "check f --proof=p --show=plan" ∷ codes "solve f --proof=p" ∷ codes "solve --exact f" ∷ codes "solve f --slack=1"
     ∷ codes "explain f --method=rounded --gap=5" ∷ codes "explain f --method=rounded --start=a" ∷ codes "curve f R CO2 4 --slack=5" ∷ codes "make 7 --pivots 5" ∷ codes "make 7 --places 9"
     ∷ codes "table f p x --show=exact" ∷ codes "table f p x --slack=5" ∷ codes "page f p --proof=p" ∷ codes "page f p --exact" ∷ codes "page f p --pivots=5" ∷ codes "warn f --places=6"
     ∷ codes "warn f --exact" ∷ codes "compare f p g q --proof=p" ∷ codes "compare f p g q --slack=5" ∷ codes "reduce f --gap=5" ∷ codes "reduce f --show=file" ∷ [])
@@ -115,7 +115,7 @@ values = refl
 
 -- an option of the rounded method beside another one, which may be no method
 rounded_alone : AllAsk (Err BadForm) (
-    codes "curve f R CO2 x --gap=y" ∷ codes "curve f R CO2 x --gap=5 --method=exact" ∷ codes "curve f R CO2 x --gap=5 --method=fast" ∷ codes "span f R T 2020 --gap=3"
+    codes "curve f R CO2 x --gap=y" ∷ codes "curve f R CO2 x --gap=5 --method=exact" ∷ codes "curve f R CO2 x --gap=5 --method=fast" ∷ codes "span f R T 2020 --gap=3" ∷ codes "span f R T 2020 --show=plan"
     ∷ codes "solve f --start a" ∷ codes "solve f --method exact --start a" ∷ codes "solve f --method=fast --start=a" ∷ codes "span f R T 2020 --method=rounded --start=a" ∷ [])
 rounded_alone = refl
 

@@ -1,5 +1,5 @@
 -- The words after a command have the parts that are spelled so, and no others.
-use Rattle.std.proofs.Common.{◌≡◌, ◌∙◌, ◌+◌, ◌&&◌, ◌||◌, ◌==◌, arith, ℕ, suc, List, [], ◌∷◌, ◌++◌, take, drop, map, Option, Some, None, Bool, true, false, cond, refl, ap, sym, subst, true≢false, append_assoc, option_map}
+use Rattle.std.proofs.Common.{rules, ◌≡◌, ◌∙◌, ◌+◌, ◌&&◌, ◌||◌, ◌==◌, arith, ℕ, suc, List, [], ◌∷◌, ◌++◌, take, drop, map, Option, Some, None, Bool, true, false, cond, refl, ap, sym, subst, true≢false, append_assoc, option_map}
 use Rattle.std.specs.Prelude.{codes, find, not, ⊤}
 use Rattle.std.specs.List.{AllByRecursion, list_all, list_any, flat_map, before_first, after_first, position_or_len}
 use Rattle.std.specs.Option.{option_map_or}
@@ -63,34 +63,7 @@ record IsSpelled (o : List ℕ × Bool) : Type 0 where
   parts : HasParts o.0 o.1
 
 are_options : AllByRecursion IsSpelled options
-are_options = (
-  record { named = refl; parts = (λ value words. refl, λ value words. refl) },
-  (
-    record { named = refl; parts = (λ value words. refl, λ value words. refl) },
-    (
-      record { named = refl; parts = (λ value words. refl, λ value words. refl) },
-      (
-        record { named = refl; parts = (λ value words. refl, λ value words. refl) },
-        (
-          record { named = refl; parts = (λ value words. refl, λ value words. refl) },
-          (
-            record { named = refl; parts = (λ value words. refl, λ value words. refl) },
-            (
-              record { named = refl; parts = (λ value words. refl, λ value words. refl) },
-              (
-                record { named = refl; parts = (λ value words. refl, λ value words. refl) },
-                (
-                  record { named = refl; parts = λ words. refl },
-                  tt,
-                ),
-              ),
-            ),
-          ),
-        ),
-      ),
-    ),
-  ),
-)
+are_options = search rules
 
 -- the option that a word has has the text before the '=' for its word
 option_found : (word : List ℕ) (o : List ℕ × Bool) → option_in word ≡ Some o → IsSpelled o × (option_word o.0 ≡ before_first is_equals word)

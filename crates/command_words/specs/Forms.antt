@@ -15,6 +15,7 @@ pub record Given : Type 0 where
   pub words : List (List ℕ)
   pub value : List ℕ → Option (List ℕ)
 
+-- the words that aren't options
 abbrev pub files_in : List Part → List (List ℕ)
 files_in [] = []
 files_in (File file ∷ parts) = file ∷ files_in parts
@@ -56,8 +57,8 @@ given_by (Some parts) = if repeats_none [] parts then Some (given_of_parts parts
 
 -- ---- forms
 
--- a form of a command: its word, how many words at least and at most stand after it beside the options, the options that it may have, those that it
--- may have beside `--method rounded` alone, and those that it needs
+-- a form of a command: its name and its word, how many words at least and at most stand after that beside the options, the options that it may have,
+-- those that it may have beside `--method rounded` alone, and those that it needs
 pub record Form : Type 0 where
   pub name : FormName
   pub word : List ℕ

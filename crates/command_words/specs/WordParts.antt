@@ -1,4 +1,4 @@
--- The form of the words after a command: files, options with their values, and a flag without one (long options as in the GNU coding standards).
+-- The form of the words after a command: files, options with their values, and flags without one (long options as in the GNU coding standards).
 use Rattle.std.specs.Prelude.{◌≡◌, ◌↔◌, ℕ, Bool, true, false, not, ◌==◌, ◌&&◌, List, [], ◌∷◌, ◌++◌, map, find, codes, Option, Some, None, option_map, if◌then◌else◌}
 use Rattle.std.specs.List.{list_all, list_any, flat_map, before_first, after_first}
 use Rattle.std.specs.Option.{option_map_or}
