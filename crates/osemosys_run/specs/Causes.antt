@@ -1,39 +1,50 @@
 -- Why a status and a text came, over any shelf: what is due for the bytes that were moved, or where the reading stopped.
-use Rattle.std.specs.Prelude.{◌≡◌, ℕ, ◌+◌, ◌-◌, List, [], ◌∷◌, get_or, ◌⊎◌, Option, Some, None, Result}
+use Rattle.std.specs.Prelude.{◌≡◌, ◌⊎◌, ℕ, ◌+◌, List, Result, Ok}
 use Rattle.command_answers.specs.declared.status.Status.{Status}
 use Rattle.command_answers.specs.declared.status.Status.TheVariants.{Refused, ReadFault}
-use Rattle.command_answers.specs.declared.status.Refusal.TheVariants.{TooLong}
-use Rattle.command_answers.specs.declared.status.ReadStop.TheVariants.{NoFile, Failed}
+use Rattle.command_answers.specs.declared.status.Refusal.TheVariants as refusals
+use Rattle.command_answers.specs.declared.status.ReadStop.TheVariants as stops
 use Rattle.command_answers.specs.Lines.{stop_line, too_long_line}
 use Rattle.command_words.specs.declared.fault.WordFault.{WordFault}
 use Rattle.command_words.specs.Words.{Request, asked}
-use Rattle.osemosys_run.specs.Due.{DueOver, names_asked}
-use Rattle.osemosys_run.specs.Reading.{Sight, BeganOne, HasFailed, IsMissing, IsTooLong, IsWholeFile}
+use Rattle.request_answers.specs.Due.{DueOverAsked, names_asked}
+use Rattle.request_answers.specs.Replies.{CanBeSent, DueForReply, IsAsMade, IsForEquations, IsOwn}
+use Rattle.request_answers.specs.declared.reply.Reply.{Reply}
+use Rattle.request_files.specs.InTurn.{AreRead, StopsAt}
+use Rattle.request_files.specs.Sights.{Sight}
+use Rattle.request_files.specs.declared.whole.ReadEnd.{ReadEnd}
+use Rattle.request_files.specs.declared.whole.ReadEnd.TheVariants.{NoFile, Failed, TooLong, Memory}
 
--- the file of this name and number is too long, or missing, or the shelf failed and counted it; and the status and the text say so
-abbrev pub StopsAtFile : ℕ → List ℕ → Sight → Sight → Status → List ℕ → Type 0
-StopsAtFile number name before after status text =
-    ((status ≡ Refused (TooLong number)) × (text ≡ too_long_line number) × IsTooLong before after name)
-    ⊎ ((status ≡ ReadFault (NoFile number)) × (text ≡ stop_line (NoFile number)) × IsMissing before after name)
-    ⊎ ((status ≡ ReadFault (Failed number)) × (text ≡ stop_line (Failed number)) × HasFailed before after name)
+-- the status and the line tell this end at the file of this number; none tell that memory ran out
+abbrev pub TellsEnd : ℕ → ReadEnd → Status → List ℕ → Type 0
+TellsEnd number NoFile status line = (status ≡ ReadFault (stops.NoFile number)) × (line ≡ stop_line (stops.NoFile number))
+TellsEnd number Failed status line = (status ≡ ReadFault (stops.Failed number)) × (line ≡ stop_line (stops.Failed number))
+TellsEnd number TooLong status line = (status ≡ Refused (refusals.TooLong number)) × (line ≡ too_long_line number)
+TellsEnd number Memory status line = ⊥
 
--- The files of these names, with numbers from this one on, were begun one after another, each where the one before was read to its end, and no others;
--- and so was the last, and `Says` has what they hold; or the work stops at one of them.
-abbrev pub CausedByFiles : (List (Option (List ℕ)) → Type 0) → ℕ → List (List ℕ) → Sight → Sight → Status → List ℕ → Type 0
-CausedByFiles Says number [] before after status text = (after ≡ before) × Says []
-CausedByFiles Says number (name ∷ names) before after status text =
-    ((there : Sight) × (bytes : List ℕ) × BeganOne before there × IsWholeFile before there name bytes
-    × CausedByFiles (λ contents. Says (Some bytes ∷ contents)) (number + 1) names there after status text)
-    ⊎ (BeganOne before after × StopsAtFile number name before after status text)
+-- The files of a request were begun one after another and no others, each was read to its end before the next, and the status and the text are those that are due for their contents.
+pub record IsAnswered (request : Result Request WordFault) (before after : Sight) (status : Status) (text : List ℕ) : Type 0 where
+  pub contents : List (List ℕ)
+  pub read : AreRead (names_asked request) contents before after
+  pub due : DueOverAsked request contents status text
+  pub own : IsOwn status
 
--- what the file of this number holds, among contents that are numbered from 1
-abbrev pub held_in : List (Option (List ℕ)) → ℕ → List ℕ → Option (List ℕ)
-held_in contents number name = get_or contents (number - 1) None
+-- So were those before one of them, at which the reading stopped, for a cause outside or since it is too long; and the status and the text say where, with numbers from 1 on.
+pub record IsStopped (request : Result Request WordFault) (before after : Sight) (status : Status) (text : List ℕ) : Type 0 where
+  pub place : ℕ
+  pub end : ReadEnd
+  pub stops : StopsAt (names_asked request) place end before after
+  pub told : TellsEnd (place + 1) end status text
 
--- The cause that the status and the text of a request have, or of a fault of the words: each file that is asked for was read to its end, and they are due for
--- the bytes that were moved; or the reading of one stopped, for a cause outside or since it is too long.
 abbrev pub CausedByRequest : Result Request WordFault → Sight → Sight → Status → List ℕ → Type 0
-CausedByRequest request before after status text = CausedByFiles (λ contents. DueOver request (held_in contents) status text) 1 (names_asked request) before after status text
+CausedByRequest request before after status text = IsAnswered request before after status text ⊎ IsStopped request before after status text
 
+-- The cause that the status and the text of these words have.
 abbrev pub Caused : List (List ℕ) → Sight → Sight → Status → List ℕ → Type 0
 Caused words before after status text = CausedByRequest (asked words) before after status text
+
+-- What comes of the reply has a cause. Only private functions cite this.
+pub record IsReplyFor (request : Result Request WordFault) (before after : Sight) (reply : Reply) : Type 0 where
+  pub caused : (status : Status) (text : List ℕ) → DueForReply reply status text → CausedByRequest request before after status text
+  pub can_be_sent : CanBeSent reply
+  pub as_made : IsAsMade reply → (asked_for : Request) × (request ≡ Ok asked_for) × IsForEquations asked_for

@@ -2,7 +2,6 @@
 ghost use Rattle.std.specs.Prelude.{◌≡◌, ◌≤◌, true, ⊤};
 ghost use Rattle.std.specs.List.{AllByRecursion};
 ghost use Rattle.discount_factors.specs.Factors.{IsPlaces};
-ghost use Rattle.io_edges.specs.Outputs.{output};
 ghost use Rattle.model_sets.specs.Data.{AreSameData, Data};
 ghost use Rattle.mps_writer.specs.MpsText.{rows_text};
 ghost use Rattle.row_book.specs.Books.{IsWithinSets, NamesRowWithin};
@@ -12,9 +11,9 @@ ghost use Rattle.row_core.specs.Order.{var_cmp};
 ghost use Rattle.row_core.specs.Sources.{AreInOrder};
 ghost use Rattle.command_answers.specs.BookFails.{TellsFail};
 ghost use Rattle.command_answers.specs.declared.status.Status.{Status};
-ghost use Rattle.osemosys_run.specs.Mps.{DueForEquations};
-ghost use Rattle.osemosys_run.specs.Replies.{IsTold};
-ghost use Rattle.osemosys_run.specs.Sending.{Delivers};
+ghost use Rattle.osemosys_run.specs.Sending.{Delivers, sent};
+ghost use Rattle.request_answers.specs.Mps.{DueForEquations};
+ghost use Rattle.request_answers.specs.Replies.{IsTold};
 
 use crate::sending::send_answer;
 use command_answers::{Status, refuse_book};
@@ -32,20 +31,16 @@ use std::alloc::Global;
 /// in; few rows are in memory at a time. Where memory runs out, a prefix of the text was written.
 pub fn write_equations<K: Sink>(alloc: Global, model: &ModelData, places: u8, out: &mut K) -> Status
     requires { IsPlaces places }
-    ensures delivers { Delivers ⊤ (λ status text. (d : Data) → AreSameData model.now.facts d → DueForEquations places d status text) result
-        (output (K.written out.old) (K.accepted out.old)) (output (K.written out.new) (K.accepted out.new))
-        (K.faults out.old) (K.faults out.new) }
+    ensures delivers { Delivers ⊤ (λ status text. (d : Data) → AreSameData model.now.facts d → DueForEquations places d status text) result (sent K.Sink out.old) (sent K.Sink out.new) }
     ensures faults { K.faults out.old ≤ K.faults out.new }
 {
     write_model(alloc, model, places, out)
 }
 
-// The same over the model's own data.
+// Writes what is due over the model's own data.
 fn write_model<K: Sink>(alloc: Global, model: &ModelData, places: u8, out: &mut K) -> Status
     requires { IsPlaces places }
-    ensures delivers { Delivers ⊤ (DueForEquations places model.now.facts) result
-        (output (K.written out.old) (K.accepted out.old)) (output (K.written out.new) (K.accepted out.new))
-        (K.faults out.old) (K.faults out.new) }
+    ensures delivers { Delivers ⊤ (DueForEquations places model.now.facts) result (sent K.Sink out.old) (sent K.Sink out.new) }
     ensures faults { K.faults out.old ≤ K.faults out.new }
 {
     match RowFeed::new(alloc, model, places) {
@@ -66,9 +61,7 @@ fn write_rows<K: Sink>(
     requires in_order { AreInOrder feed.old.rows }
     requires within { AllByRecursion (IsWithinSets model.now.facts.sets) vars.now }
     requires ascending { ascends var_cmp vars.now ≡ true }
-    ensures delivers { Delivers ⊤ (IsTold Status.Done (rows_text model.now.facts.sets feed.old.rows vars.now)) result
-        (output (K.written out.old) (K.accepted out.old)) (output (K.written out.new) (K.accepted out.new))
-        (K.faults out.old) (K.faults out.new) }
+    ensures delivers { Delivers ⊤ (IsTold Status.Done (rows_text model.now.facts.sets feed.old.rows vars.now)) result (sent K.Sink out.old) (sent K.Sink out.new) }
     ensures faults { K.faults out.old ≤ K.faults out.new }
 {
     match mps_to(alloc, feed, vars, model.sets(), out) {
@@ -81,9 +74,7 @@ fn write_rows<K: Sink>(
 // The line for the first row that can't be made.
 fn write_refusal<K: Sink>(alloc: Global, model: &ModelData, fail: BookFail, out: &mut K) -> Status
     requires { NamesRowWithin model.now.facts.sets fail }
-    ensures delivers { Delivers ⊥ (TellsFail model.now.facts.sets fail) result
-        (output (K.written out.old) (K.accepted out.old)) (output (K.written out.new) (K.accepted out.new))
-        (K.faults out.old) (K.faults out.new) }
+    ensures delivers { Delivers ⊥ (TellsFail model.now.facts.sets fail) result (sent K.Sink out.old) (sent K.Sink out.new) }
     ensures faults { K.faults out.old ≤ K.faults out.new }
 {
     match refuse_book(alloc, fail, model.sets()) {

@@ -1,8 +1,7 @@
 // The top call: words, reading, accepting, answering, sending.
-ghost use Rattle.std.specs.Prelude.{◌≡◌, ◌≤◌, ◌⊎◌, ◌*ℤ◌, Bool, List, ℕ, ℤ, Some, true, Contains, IfOk, map};
+ghost use Rattle.std.specs.Prelude.{◌≡◌, ◌≤◌, ◌⊎◌, ◌*ℤ◌, Bool, List, ℕ, ℤ, Ok, Some, true, Contains, IfOk, map};
 ghost use Rattle.std.specs.String.{string_bytes};
 ghost use Rattle.io_edges.specs.Count.{Rose};
-ghost use Rattle.io_edges.specs.Outputs.{output};
 ghost use Rattle.io_edges.specs.Told.{WhereTold};
 ghost use Rattle.mathprog_data.specs.Meaning.{Blocks};
 ghost use Rattle.mathprog_data.specs.Verdicts.{FaultAt, Says};
@@ -27,61 +26,49 @@ ghost use Rattle.row_core.specs.declared.Var.{Var};
 ghost use Rattle.command_answers.specs.declared.status.ReadStop.{ReadStop};
 ghost use Rattle.command_answers.specs.declared.status.Status.{Status};
 ghost use Rattle.command_answers.specs.Accepted.{Accepted};
+ghost use Rattle.command_answers.specs.NotAccepted.{DueWhereNotAccepted};
+ghost use Rattle.command_answers.specs.SolvedPlans.{IsNearOptimum};
 ghost use Rattle.check_command.specs.CheckProof.{DueForProof, DueForProofFile};
+ghost use Rattle.command_words.specs.Commands.{request_of};
+ghost use Rattle.command_words.specs.WordParts.{HasSpelledParts, Part};
+ghost use Rattle.command_words.specs.Words.{asked};
 ghost use Rattle.command_words.specs.declared.command.CompareShow.{CompareShow};
 ghost use Rattle.command_words.specs.declared.command.SolveMethod.{SolveMethod};
-ghost use Rattle.command_words.specs.declared.command.SolveShow.TheVariants.{Proof};
-ghost use Rattle.solve_command.specs.Shown.{wanted_by};
-ghost use Rattle.solve_command.specs.Solve.{DueForSolve};
-ghost use Rattle.solve_command.specs.Starts.{DueForSolveFrom};
-ghost use Rattle.osemosys_run.specs.Accepting.{AcceptsEnd};
-ghost use Rattle.osemosys_run.specs.Causes.{Caused};
-ghost use Rattle.osemosys_run.specs.Compared.{DueForCompared, IsPromisedDifference};
-ghost use Rattle.osemosys_run.specs.Complete.{Completes};
-ghost use Rattle.osemosys_run.specs.Due.{AskForEquations, Due};
-ghost use Rattle.osemosys_run.specs.Mps.{WritesEquations};
-ghost use Rattle.command_answers.specs.NotAccepted.{DueWhereNotAccepted};
-ghost use Rattle.solve_command.specs.Promises.{ArePromised};
-ghost use Rattle.osemosys_run.specs.Promised.{IsPromisedTable};
-ghost use Rattle.osemosys_run.specs.Reading.{sight};
-ghost use Rattle.osemosys_run.specs.ReadToEnd.{IsReadToEnd, ReadsWhole};
-ghost use Rattle.osemosys_run.specs.Replies.{DueForReply, IsAskedBy};
-ghost use Rattle.osemosys_run.specs.Runs.{IsRun};
-ghost use Rattle.osemosys_run.specs.Sending.{Delivers};
-ghost use Rattle.osemosys_run.specs.Warned.{IsWarned};
 ghost use Rattle.data_warnings.specs.Findings.{findings};
 ghost use Rattle.data_warnings.specs.NoPlan.{excludes_plans};
 ghost use Rattle.data_warnings.specs.declared.places.Finding.{Finding};
-ghost use Rattle.command_answers.specs.SolvedPlans.{IsNearOptimum};
+ghost use Rattle.solve_command.specs.Promises.{ArePromised};
 ghost use Rattle.table_command.specs.Tables.{DueForTable, form_of};
-ghost use Rattle.command_words.specs.WordParts.{HasSpelledParts, Part};
+ghost use Rattle.request_files.specs.Reading.{IsSameShelf};
+ghost use Rattle.request_files.specs.Sights.{seen};
+ghost use Rattle.request_answers.specs.Accepting.{AcceptsEnd, ProvesEnd};
+ghost use Rattle.request_answers.specs.Compared.{DueForCompared, IsPromisedDifference};
+ghost use Rattle.request_answers.specs.Complete.{Completes};
+ghost use Rattle.request_answers.specs.Due.{AskForEquations, Due};
+ghost use Rattle.request_answers.specs.Mps.{WritesEquations};
+ghost use Rattle.request_answers.specs.Promised.{IsPromisedTable};
+ghost use Rattle.request_answers.specs.Requests.{IsInRange};
+ghost use Rattle.request_answers.specs.Warned.{IsWarned};
+ghost use Rattle.osemosys_run.specs.Causes.{Caused, IsReplyFor};
+ghost use Rattle.osemosys_run.specs.ReadToEnd.{IsReadToEnd, ReadsWhole};
+ghost use Rattle.osemosys_run.specs.Runs.{IsRun};
+ghost use Rattle.osemosys_run.specs.Sending.{Delivers, sent};
 
-use crate::accepting::accepting_laws;
-use crate::check_files::{Asked, perform_check};
-use crate::compare_files::{CompareAsked, perform_compare};
-use crate::compare_laws::difference_laws;
-use crate::making::perform_make;
-use crate::mps::perform_mps;
-use crate::mps_program::mps_laws;
-use crate::one_file::{CurveAsked, SpanAsked, Task, perform_task};
-use crate::promised::promised_laws;
-use crate::reply::{Reply, deliver};
-use crate::two_files::{PageAsked, TableAsked, TwoFileTask, TwoFilesAsked, perform_two_files};
-use crate::warned::warned_laws;
+use crate::delivering::deliver;
+use crate::files::{files_of, refuse_file};
 use call_stages::{Stage, Unwatched, Watcher};
 use command_answers::{Status, acceptance_laws, refuse_words};
-use command_words::{Command, SolveMethod, read_command, spelled_parts};
+use command_words::{Command, read_command, spelled_parts};
 use io_edges::{Shelf, Sink};
 use mathprog_data::verdict_laws;
-use plan_files::telling_laws;
 use plan_quantities::laws::quantity_laws;
-use proof_files::proof_telling_laws;
-use row_book::stop_laws;
-use solve_command::{promise_laws, wanted_by};
+use request_answers::{
+    Reply, accepting_laws, answer, completing_laws, difference_laws, mps_laws, promised_laws,
+    warned_laws,
+};
+use request_files::read_files;
+use solve_command::promise_laws;
 use std::alloc::{AllocError, Global};
-
-/// The decimal places of written factors for `warn`, which writes none.
-const UNUSED_PLACES: u8 = 6;
 
 /// Runs the program on the words after its name: reads the files that they name from the shelf, and
 /// writes the text that is due into the sink.
@@ -145,48 +132,28 @@ pub fn osemosys<S: Shelf, K: Sink>(
 ) -> Status
     // Over a shelf that tells its files and had no fault, status and text are those that are due for
     // the words and the files.
-    ensures due { WhereTold (S.files shelf.old) (λ files.
-        (Rose (S.faults shelf.old) (S.faults shelf.new) → ⊥)
-        → Delivers (AskForEquations (map string_bytes words.now)) (Due (map string_bytes words.now) files) result
-        (output (K.written out.old) (K.accepted out.old)) (output (K.written out.new) (K.accepted out.new))
-        (K.faults out.old) (K.faults out.new)) }
+    ensures due { WhereTold (S.files shelf.old) (λ files. ¬ Rose (S.faults shelf.old) (S.faults shelf.new)
+        → Delivers (AskForEquations (map string_bytes words.now)) (Due (map string_bytes words.now) files) result (sent K.Sink out.old) (sent K.Sink out.new)) }
 
     // Over any shelf and any sink, so also over the disk: each file that is asked for was read to its end, and status and the text that
     // was taken are those that are due for the bytes that were moved; or the reading stopped, and they say where.
-    ensures caused { Delivers (AskForEquations (map string_bytes words.now)) (Caused (map string_bytes words.now)
-        (sight (S.files shelf.old) (S.rest shelf.old) (S.faults shelf.old) (S.begins shelf.old)
-        (S.taken shelf.old) (S.moved shelf.old))
-        (sight (S.files shelf.new) (S.rest shelf.new) (S.faults shelf.new) (S.begins shelf.new)
-        (S.taken shelf.new) (S.moved shelf.new)))
-        result
-        (output (K.written out.old) (K.accepted out.old)) (output (K.written out.new) (K.accepted out.new))
-        (K.faults out.old) (K.faults out.new) }
+    ensures caused { Delivers (AskForEquations (map string_bytes words.now)) (Caused (map string_bytes words.now) (seen S.Shelf shelf.old) (seen S.Shelf shelf.new))
+        result (sent K.Sink out.old) (sent K.Sink out.new) }
 
     // Files that are there, aren't too long and met no fault were read to their ends, unless memory ran out.
-    ensures read_whole { WhereTold (S.files shelf.old) (λ files.
-        (Rose (S.faults shelf.old) (S.faults shelf.new) → ⊥)
-        → ReadsWhole (map string_bytes words.now) files result
-        (sight (S.files shelf.old) (S.rest shelf.old) (S.faults shelf.old) (S.begins shelf.old)
-        (S.taken shelf.old) (S.moved shelf.old))
-        (sight (S.files shelf.new) (S.rest shelf.new) (S.faults shelf.new) (S.begins shelf.new)
-        (S.taken shelf.new) (S.moved shelf.new))) }
+    ensures read_whole { WhereTold (S.files shelf.old) (λ files. ¬ Rose (S.faults shelf.old) (S.faults shelf.new)
+        → ReadsWhole (map string_bytes words.now) files result (seen S.Shelf shelf.old) (seen S.Shelf shelf.new)) }
 
     // A data file that isn't refused, and whose rows can be made, is written out; and a feasible plan with multipliers that
     // prove their bound and keep the gap is accepted, where the files are in form and every number that is formed for the
-    // conditions fits; a model that nothing stops is solved or explained, its curve is told whole, and its span is found; a
-    // made file is written, and so are a table and a page of a proof that can be accepted, how the plans of two such proofs differ,
-    // and what is probably wrong with data that aren't refused; unless memory runs out, and over a shelf and a sink without a fault.
-    ensures complete { WhereTold (S.files shelf.old) (λ files.
-        (Rose (S.faults shelf.old) (S.faults shelf.new) → ⊥) → (Rose (K.faults out.old) (K.faults out.new) → ⊥)
+    // conditions fits; a model that nothing stops is solved or explained, its curve is told whole, and its span is found; and
+    // a table and a page of a proof that can be accepted are written, and how the plans of two such proofs differ;
+    // unless memory runs out, and over a shelf and a sink without a fault.
+    ensures complete { WhereTold (S.files shelf.old) (λ files. ¬ Rose (S.faults shelf.old) (S.faults shelf.new) → ¬ Rose (K.faults out.old) (K.faults out.new)
         → Completes (map string_bytes words.now) files result) }
 
     // Each file that is asked for was read to its end before any answer on what a file says, over any shelf.
-    ensures read_to_end { IsReadToEnd (map string_bytes words.now)
-        (sight (S.files shelf.old) (S.rest shelf.old) (S.faults shelf.old) (S.begins shelf.old)
-        (S.taken shelf.old) (S.moved shelf.old))
-        (sight (S.files shelf.new) (S.rest shelf.new) (S.faults shelf.new) (S.begins shelf.new)
-        (S.taken shelf.new) (S.moved shelf.new))
-        result }
+    ensures read_to_end { IsReadToEnd (map string_bytes words.now) (seen S.Shelf shelf.old) (seen S.Shelf shelf.new) result }
 
     // What a text says is one thing, or it has one fault, and never both.
     ensures one_reading { (text : List ℕ) (blocks others : Blocks) → Says text blocks → Says text others → blocks ≡ others }
@@ -240,9 +207,7 @@ pub fn osemosys<S: Shelf, K: Sink>(
     // What `solve` writes to prove its end is accepted by `check`, over the same data file and with the same gap and decimal places, whatever its
     // guesses begin from.
     ensures proofs { (places gap pivots : ℕ) (method : SolveMethod) (rounded : ℕ) (bytes : List ℕ) (d : Data) (end status : Status) (proof text : List ℕ)
-        → Accepted bytes d → DueForSolve places (wanted_by gap pivots Proof method) rounded d end proof → DueForProof places proof gap d status text → AcceptsEnd end status text }
-    ensures proofs_from { (places gap pivots : ℕ) (method : SolveMethod) (rounded : ℕ) (bytes start : List ℕ) (d : Data) (end status : Status) (proof text : List ℕ)
-        → Accepted bytes d → DueForSolveFrom places (wanted_by gap pivots Proof method) start rounded d end proof → DueForProof places proof gap d status text → AcceptsEnd end status text }
+        → Accepted bytes d → ProvesEnd places gap pivots method rounded d end proof → DueForProof places proof gap d status text → AcceptsEnd end status text }
 
     // A failed read is answered only where the shelf counted a fault, and a failed write only where the sink did.
     ensures failed_read { (file : ℕ) → result ≡ Status.ReadFault (ReadStop.Failed file) → Rose (S.faults shelf.old) (S.faults shelf.new) }
@@ -256,9 +221,6 @@ pub fn osemosys<S: Shelf, K: Sink>(
     // The laws that the clauses of their names state.
     verdict_laws();
     acceptance_laws();
-    stop_laws();
-    telling_laws();
-    proof_telling_laws();
     mps_laws();
     spelled_parts();
     quantity_laws();
@@ -279,21 +241,10 @@ pub fn osemosys_watched<S: Shelf, K: Sink>(
     out: &mut K,
     watcher: &mut dyn Watcher,
 ) -> Status
-    ensures { IsRun (map string_bytes words.now)
-        (sight (S.files shelf.old) (S.rest shelf.old) (S.faults shelf.old) (S.begins shelf.old)
-        (S.taken shelf.old) (S.moved shelf.old))
-        (sight (S.files shelf.new) (S.rest shelf.new) (S.faults shelf.new) (S.begins shelf.new)
-        (S.taken shelf.new) (S.moved shelf.new))
-        result
-        (output (K.written out.old) (K.accepted out.old)) (output (K.written out.new) (K.accepted out.new))
-        (K.faults out.old) (K.faults out.new) }
+    ensures { IsRun (map string_bytes words.now) (seen S.Shelf shelf.old) (seen S.Shelf shelf.new) result (sent K.Sink out.old) (sent K.Sink out.new) }
 {
-    // What ends has a cause by these laws.
-    verdict_laws();
-    acceptance_laws();
-    stop_laws();
-    telling_laws();
-    proof_telling_laws();
+    // Where all files are such that a request must come to an end, it does.
+    completing_laws();
     watcher.see(Stage::Reading);
     match perform(alloc, words, shelf, watcher) {
         Ok(reply) => {
@@ -311,229 +262,34 @@ fn perform<S: Shelf>(
     shelf: &mut S,
     watcher: &mut dyn Watcher,
 ) -> Result<Reply, AllocError>
-    ensures caused { IfOk result (λ reply. (status : Status) (text : List ℕ) → DueForReply reply status text → Caused (map string_bytes words.now)
-        (sight (S.files shelf.old) (S.rest shelf.old) (S.faults shelf.old) (S.begins shelf.old)
-        (S.taken shelf.old) (S.moved shelf.old))
-        (sight (S.files shelf.new) (S.rest shelf.new) (S.faults shelf.new) (S.begins shelf.new)
-        (S.taken shelf.new) (S.moved shelf.new))
-        status text) }
-    ensures asked { IfOk result (IsAskedBy (map string_bytes words.now)) }
-    ensures files { S.files shelf.new ≡ S.files shelf.old }
-    ensures faults { S.faults shelf.old ≤ S.faults shelf.new }
+    ensures reply { IfOk result (IsReplyFor (asked (map string_bytes words.now)) (seen S.Shelf shelf.old) (seen S.Shelf shelf.new)) }
+    ensures same { IsSameShelf (seen S.Shelf shelf.old) (seen S.Shelf shelf.new) }
 {
     match read_command(alloc, words)? {
-        Ok(Command::Mps { file, places }) => perform_mps(alloc, file, places, shelf),
-        Ok(
-            Command::Solve {
-                file,
-                gap,
-                pivots,
-                places,
-                show,
-                method,
-            },
-        ) => {
-            let task = Task::Solve(wanted_by(gap, pivots, show, method));
-            let answer = perform_task(alloc, file, task, places, shelf, watcher)?;
-            Ok(Reply::Told(answer))
-        }
-        Ok(
-            Command::Explain {
-                file,
-                pivots,
-                places,
-                method,
-            },
-        ) => {
-            let task = Task::Explain(explain_command::Wanted { pivots, method });
-            let answer = perform_task(alloc, file, task, places, shelf, watcher)?;
-            Ok(Reply::Told(answer))
-        }
-        Ok(
-            Command::Curve {
-                file,
-                region,
-                emission,
-                limits,
-                gap,
-                pivots,
-                places,
-                method,
-            },
-        ) => {
-            let wanted = curve_command::Wanted {
-                method,
-                pivots,
-                gap,
-            };
-            let task = Task::Curve(CurveAsked {
-                region,
-                emission,
-                limits: &limits,
-                wanted,
-            });
-            let answer = perform_task(alloc, file, task, places, shelf, watcher)?;
-            Ok(Reply::Told(answer))
-        }
-        Ok(
-            Command::Span {
-                file,
-                region,
-                technology,
-                year,
-                slack,
-                gap,
-                pivots,
-                places,
-                method,
-            },
-        ) => {
-            let wanted = span_command::Wanted {
-                method,
-                slack,
-                gap,
-                pivots: u64::from(pivots),
-            };
-            let task = Task::Span(SpanAsked {
-                region,
-                technology,
-                year,
-                wanted,
-            });
-            let answer = perform_task(alloc, file, task, places, shelf, watcher)?;
-            Ok(Reply::Told(answer))
-        }
-        Ok(Command::Reduce { file, places }) => {
-            let answer = perform_task(alloc, file, Task::Reduce, places, shelf, watcher)?;
-            Ok(Reply::Told(answer))
-        }
-        Ok(Command::Warn { file }) => {
-            let answer = perform_task(alloc, file, Task::Warn, UNUSED_PLACES, shelf, watcher)?;
-            Ok(Reply::Told(answer))
-        }
-        Ok(Command::Make { size, show }) => {
-            let answer = perform_make(alloc, size, show, watcher)?;
-            Ok(Reply::Told(answer))
-        }
-        Ok(
-            Command::Check {
-                file,
-                plan,
-                multipliers,
-                gap,
-                places,
-            },
-        ) => {
-            let asked = Asked {
-                file,
-                plan,
-                multipliers,
-                gap,
-                places,
-            };
-            let answer = perform_check(alloc, asked, shelf, watcher)?;
-            Ok(Reply::Told(answer))
-        }
-        Ok(
-            Command::CheckProof {
-                file,
-                proof,
-                gap,
-                places,
-            },
-        ) => {
-            let asked = TwoFilesAsked {
-                file,
-                second: proof,
-                task: TwoFileTask::Check { gap },
-                places,
-            };
-            let answer = perform_two_files(alloc, asked, shelf, watcher)?;
-            Ok(Reply::Told(answer))
-        }
-        Ok(
-            Command::Table {
-                file,
-                proof,
-                name,
-                exact,
-                gap,
-                places,
-            },
-        ) => {
-            let task = TwoFileTask::Table(TableAsked { name, exact, gap });
-            let asked = TwoFilesAsked {
-                file,
-                second: proof,
-                task,
-                places,
-            };
-            let answer = perform_two_files(alloc, asked, shelf, watcher)?;
-            Ok(Reply::Told(answer))
-        }
-        Ok(
-            Command::Page {
-                file,
-                proof,
-                gap,
-                places,
-            },
-        ) => {
-            let task = TwoFileTask::Page(PageAsked { path: file, gap });
-            let asked = TwoFilesAsked {
-                file,
-                second: proof,
-                task,
-                places,
-            };
-            let answer = perform_two_files(alloc, asked, shelf, watcher)?;
-            Ok(Reply::Told(answer))
-        }
-        Ok(
-            Command::SolveFrom {
-                file,
-                start,
-                gap,
-                pivots,
-                places,
-                show,
-            },
-        ) => {
-            let wanted = wanted_by(gap, pivots, show, SolveMethod::Rounded);
-            let asked = TwoFilesAsked {
-                file,
-                second: start,
-                task: TwoFileTask::Solve(wanted),
-                places,
-            };
-            let answer = perform_two_files(alloc, asked, shelf, watcher)?;
-            Ok(Reply::Told(answer))
-        }
-        Ok(
-            Command::Compare {
-                first,
-                first_proof,
-                second,
-                second_proof,
-                gap,
-                places,
-                show,
-            },
-        ) => {
-            let asked = CompareAsked {
-                first,
-                first_proof,
-                second,
-                second_proof,
-                gap,
-                places,
-                show,
-            };
-            let answer = perform_compare(alloc, asked, shelf, watcher)?;
-            Ok(Reply::Told(answer))
-        }
+        Ok(command) => perform_command(alloc, command, shelf, watcher),
         Err(fault) => {
             let answer = refuse_words(alloc, fault)?;
+            Ok(Reply::Told(answer))
+        }
+    }
+}
+
+// What is to be sent for a command: its files are read, and then it is answered.
+fn perform_command<S: Shelf>(
+    alloc: Global,
+    command: Command<'_>,
+    shelf: &mut S,
+    watcher: &mut dyn Watcher,
+) -> Result<Reply, AllocError>
+    requires { IsInRange (request_of command) }
+    ensures reply { IfOk result (IsReplyFor (Ok (request_of command.entry)) (seen S.Shelf shelf.old) (seen S.Shelf shelf.new)) }
+    ensures same { IsSameShelf (seen S.Shelf shelf.old) (seen S.Shelf shelf.new) }
+{
+    let files = files_of(alloc, &command)?;
+    match read_files(alloc, &files, shelf)? {
+        Ok(found) => answer(alloc, command, found, watcher),
+        Err(stopped) => {
+            let answer = refuse_file(alloc, stopped)?;
             Ok(Reply::Told(answer))
         }
     }

@@ -8,22 +8,21 @@ use Rattle.command_answers.specs.BookFails.{TellsFail}
 use Rattle.command_answers.specs.declared.status.Status.{Status}
 use Rattle.command_answers.specs.declared.status.Status.TheVariants.{Done}
 use Rattle.command_answers.proofs.BookEnds.{refused_told}
-use Rattle.io_edges.specs.Outputs.{output}
-use Rattle.osemosys_run.specs.Mps.{DueForEquations}
-use Rattle.osemosys_run.specs.Replies.{IsTold}
-use Rattle.osemosys_run.proofs.Delivery.{delivers-weaker}
+use Rattle.osemosys_run.specs.Sending.{sent}
+use Rattle.request_answers.specs.Mps.{DueForEquations}
+use Rattle.request_answers.specs.Replies.{IsTold}
+use Rattle.osemosys_run.proofs.RunLaws.{delivers-weaker}
 use Rattle.osemosys_run.proofs.equations.write_model.Goals as goal
 
 pub returns-in-Ok-clause-delivers : goal.returns-in-Ok-clause-delivers
 returns-in-Ok-clause-delivers g c =
-    let sink = g.K.Sink in
     let d = c.args.model.now.facts in
     let places = c.args.places in
     let vars : List Var = c.in-Ok.vars.items in
     let contents : List RowContents = c.in-Ok.feed.rows in
     let said : AreContentsOf places d contents vars = c.in-Ok.ensures.rows in
     delivers-weaker ⊤ ⊤ (IsTold Done (rows_text d.sets contents c.deref.result.now)) (DueForEquations places d)
-    c.write_rows.result (output (sink.written c.args.out.now) (sink.accepted c.args.out.now)) (output (sink.written c.write_rows.new.out) (sink.accepted c.write_rows.new.out)) (sink.faults c.args.out.now) (sink.faults c.write_rows.new.out)
+    c.write_rows.result (sent g.K.Sink c.args.out.now) (sent g.K.Sink c.write_rows.new.out)
     (λ made. made)
     (λ status text told. inl (record {
       made = c.in-Ok.ensures.made;
@@ -40,11 +39,10 @@ returns-in-Ok-clause-delivers g c =
 
 pub returns-in-Err-clause-delivers : goal.returns-in-Err-clause-delivers
 returns-in-Err-clause-delivers g c =
-    let sink = g.K.Sink in
     let d = c.args.model.now.facts in
     let places = c.args.places in
     delivers-weaker ⊥ ⊤ (TellsFail d.sets c.in-Err.fail) (DueForEquations places d)
-    c.write_refusal.result (output (sink.written c.args.out.now) (sink.accepted c.args.out.now)) (output (sink.written c.write_refusal.new.out) (sink.accepted c.write_refusal.new.out)) (sink.faults c.args.out.now) (sink.faults c.write_refusal.new.out)
+    c.write_refusal.result (sent g.K.Sink c.args.out.now) (sent g.K.Sink c.write_refusal.new.out)
     (λ never. tt)
     (λ status text told. inr (refused_told places d d.sets c.in-Err.fail status text c.in-Err.ensures.stopped refl told))
     c.write_refusal.ensures.delivers

@@ -1,9 +1,10 @@
-use Rattle.std.proofs.Common.{refl, sym, subst, rules, inr}
+use Rattle.std.proofs.Common.{refl, sym, subst, rules, inl, inr}
 use Rattle.std.specs.List.{AllByRecursion}
-use Rattle.io_edges.specs.Outputs.{Output, Took, TookPrefix, output}
+use Rattle.io_edges.specs.Outputs.{Took, TookPrefix}
 use Rattle.model_sets.specs.Members.{SetLists}
 use Rattle.mps_writer.specs.MpsText.{IsNamedRow, IsNamedVariable, rows_text}
 use Rattle.command_answers.specs.declared.status.Status.TheVariants.{Done}
+use Rattle.osemosys_run.specs.Sending.{sent}
 use Rattle.osemosys_run.proofs.equations.write_rows.Goals as goal
 
 pub mps_to-requires-clause-rows : goal.mps_to-requires-clause-rows
@@ -16,44 +17,40 @@ mps_to-requires-clause-vars g c =
 
 pub returns-in-Ok-clause-delivers : goal.returns-in-Ok-clause-delivers
 returns-in-Ok-clause-delivers g c =
-    let sink = g.K.Sink in
-    let d = c.args.model.now.facts in
     let contents = c.args.feed.now.rows in
     let vars = c.args.vars.now in
-    let before : Output = output (sink.written c.args.out.now) (sink.accepted c.args.out.now) in
-    let after : Output = output (sink.written c.mps_to.new.out) (sink.accepted c.mps_to.new.out) in
-    (rows_text d.sets contents vars, (refl, refl), subst (λ (sets : SetLists). Took before after (rows_text sets contents vars)) c.sets.ensures.sets c.in-Ok.ensures.sent)
+    inl (record {
+      text = rows_text c.args.model.now.facts.sets contents vars;
+      due = (refl, refl);
+      told = tt;
+      took = subst (λ (sets : SetLists). Took (sent g.K.Sink c.args.out.now).output (sent g.K.Sink c.mps_to.new.out).output (rows_text sets contents vars)) c.sets.ensures.sets c.in-Ok.ensures.sent;
+    })
 
 pub returns-in-Err-Write-clause-delivers : goal.returns-in-Err-Write-clause-delivers
 returns-in-Err-Write-clause-delivers g c =
-    let sink = g.K.Sink in
-    let d = c.args.model.now.facts in
     let contents = c.args.feed.now.rows in
     let vars = c.args.vars.now in
-    let before : Output = output (sink.written c.args.out.now) (sink.accepted c.args.out.now) in
-    let after : Output = output (sink.written c.mps_to.new.out) (sink.accepted c.mps_to.new.out) in (
-      search rules,
-      (
-        Done,
-        rows_text d.sets contents vars,
-        (refl, refl),
-        subst (λ (sets : SetLists). TookPrefix before after (rows_text sets contents vars)) c.sets.ensures.sets c.in-Err-Write.ensures.cut,
-      ),
-    )
+    inr (inl (record {
+      status_is = refl;
+      rose = search rules;
+      said = Done;
+      text = rows_text c.args.model.now.facts.sets contents vars;
+      due = (refl, refl);
+      took = subst (λ (sets : SetLists). TookPrefix (sent g.K.Sink c.args.out.now).output (sent g.K.Sink c.mps_to.new.out).output (rows_text sets contents vars)) c.sets.ensures.sets c.in-Err-Write.ensures.cut;
+    }))
 
 pub returns-in-Err-Memory-clause-delivers : goal.returns-in-Err-Memory-clause-delivers
 returns-in-Err-Memory-clause-delivers g c =
-    let sink = g.K.Sink in
-    let d = c.args.model.now.facts in
     let contents = c.args.feed.now.rows in
     let vars = c.args.vars.now in
-    let before : Output = output (sink.written c.args.out.now) (sink.accepted c.args.out.now) in
-    let after : Output = output (sink.written c.mps_to.new.out) (sink.accepted c.mps_to.new.out) in
-    inr (
-      tt,
-      (
-        rows_text d.sets contents vars,
-        (refl, refl),
-        subst (λ (sets : SetLists). TookPrefix before after (rows_text sets contents vars)) c.sets.ensures.sets c.in-Err-Memory.ensures.cut,
-      ),
-    )
+    inr (inr (record {
+      status_is = refl;
+      left = inr (
+        tt,
+        record {
+          text = rows_text c.args.model.now.facts.sets contents vars;
+          due = (refl, refl);
+          took = subst (λ (sets : SetLists). TookPrefix (sent g.K.Sink c.args.out.now).output (sent g.K.Sink c.mps_to.new.out).output (rows_text sets contents vars)) c.sets.ensures.sets c.in-Err-Memory.ensures.cut;
+        },
+      );
+    }))

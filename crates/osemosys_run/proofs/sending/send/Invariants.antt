@@ -1,16 +1,15 @@
 use Rattle.std.proofs.Common.{◌-◌, ◌≤◌, length, take}
-use Rattle.io_edges.specs.Outputs.{Took, output}
+use Rattle.io_edges.specs.Outputs.{Took}
+use Rattle.osemosys_run.specs.Sending.{sent}
 use Rattle.osemosys_run.proofs.sending.send.Given as goal
 
 -- the prefix that was sent is what the sink took
-abbrev pub invariant-loop-sent : goal.invariant-loop-sent
-invariant-loop-sent g l =
-    let sink = g.K.Sink in
-    record {
-      within : l.sent ≤ length l.text;
-      took : Took (output (sink.written l.fn.out) (sink.accepted l.fn.out)) (output (sink.written l.out) (sink.accepted l.out)) (take l.sent l.text);
-      faults : sink.faults l.fn.out ≤ sink.faults l.out;
-    }
+abbrev pub invariant-loop-done : goal.invariant-loop-done
+invariant-loop-done g l = record {
+  within : l.done ≤ length l.text;
+  took : Took (sent g.K.Sink l.fn.out).output (sent g.K.Sink l.out).output (take l.done l.text);
+  faults : g.K.Sink.faults l.fn.out ≤ g.K.Sink.faults l.out;
+}
 
-abbrev pub decreases-loop-sent : goal.decreases-loop-sent
-decreases-loop-sent g l = length l.text - l.sent
+abbrev pub decreases-loop-done : goal.decreases-loop-done
+decreases-loop-done g l = length l.text - l.done

@@ -1,0 +1,10 @@
+pub mod Accepting
+pub mod Compared
+pub mod Complete
+pub mod Due
+pub mod Mps
+pub mod Promised
+pub mod Replies
+pub mod Requests
+pub mod Scenarios
+pub mod Warned

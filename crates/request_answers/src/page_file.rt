@@ -1,0 +1,70 @@
+// What `page` answers over accepted data and the bytes of the file of a proof: `check` comes first, and then the page.
+ghost use Rattle.std.specs.Prelude.{◌≡◌, ℕ, IfOk};
+ghost use Rattle.discount_factors.specs.Factors.{IsPlaces};
+ghost use Rattle.model_sets.specs.Data.{AreSameData, Data};
+ghost use Rattle.check_command.specs.CheckProof.{DueForProofFile};
+ghost use Rattle.command_answers.specs.CheckedPlans.{IsBookOf, IsListedBook};
+ghost use Rattle.command_answers.specs.ShownProofs.{DueOverRows};
+ghost use Rattle.page_command.specs.Pages.{DueForPage, ShowsPage};
+
+use check_command::accepted_proof;
+use command_answers::{Answer, made_book};
+use page_command::{Sheet, answer_page, last_segment};
+use param_tables::ModelData;
+use row_book::RowBook;
+use std::alloc::{AllocError, Global};
+
+/// What the words after `page` say: the path of the data file, and how many millionths of the bound the plan's cost may be above it.
+#[derive(Clone, Copy)]
+pub struct PageAsked<'a> {
+    pub path: &'a str,
+    pub gap: u32,
+}
+
+/// What is due for the text of a file of a proof over any data that have the model's sets and values, with written factors of 6 or 9
+/// decimal places: that the rows can't be made, or what `check` says of the proof, where it doesn't accept it; or the page.
+pub fn answer_paged(
+    alloc: Global,
+    model: &ModelData,
+    places: u8,
+    proof: &[u8],
+    asked: PageAsked<'_>,
+) -> Result<Answer, AllocError>
+    requires { IsPlaces places }
+    ensures { (d : Data) → AreSameData model.now.facts d → IfOk result (λ answer.
+        DueForPage places (λ rows. DueForProofFile places d rows proof.now asked.entry.gap) proof.now d answer.status answer.text.items) }
+{
+    match made_book(alloc, model, places)? {
+        Ok(book) => answer_over(alloc, model, places, &book, proof, asked),
+        Err(answer) => Ok(answer),
+    }
+}
+
+// What is due over a book of rows.
+fn answer_over(
+    alloc: Global,
+    model: &ModelData,
+    places: u8,
+    book: &RowBook,
+    proof: &[u8],
+    asked: PageAsked<'_>,
+) -> Result<Answer, AllocError>
+    requires places { IsPlaces places }
+    requires listed { IsListedBook model.now.facts.sets book.now.rows book.now.vars }
+    requires of_data { IsBookOf places model.now.facts book.now.rows book.now.vars }
+    ensures { (d : Data) → AreSameData model.now.facts d → IsBookOf places d book.now.rows book.now.vars
+        → IfOk result (λ answer. DueOverRows (DueForProofFile places d book.now.rows proof.now asked.entry.gap) proof.now ShowsPage d answer.status answer.text.items) }
+{
+    match accepted_proof(alloc, book, model.sets(), proof, asked.gap)? {
+        Ok(accepted) => {
+            let sheet = Sheet {
+                file: last_segment(asked.path.as_bytes()),
+                model,
+                rows: book.rows(),
+                places,
+            };
+            answer_page(alloc, sheet, &accepted)
+        }
+        Err(answer) => Ok(answer),
+    }
+}

@@ -1,0 +1,5 @@
+pub mod Sights
+pub mod Reading
+pub mod ReadEnds
+pub mod InTurn
+pub mod Marked
