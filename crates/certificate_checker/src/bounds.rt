@@ -3,72 +3,31 @@
 ghost use Rattle.std.specs.Prelude.{ℕ, ℤ, pos, ◌≡◌, IsTrue, IfOk};
 ghost use Rattle.exact_num.specs.Value.{value_of};
 ghost use Rattle.row_core.specs.declared.RowName.{RowName};
-ghost use Rattle.row_core.specs.Numbers.{variables_of, numbers_of, ascends, all_in_range};
+ghost use Rattle.row_core.specs.Numbers.{ascends};
 ghost use Rattle.row_core.specs.Order.{var_cmp, row_name_cmp};
 ghost use Rattle.row_core.specs.Plans.{value_in};
-ghost use Rattle.row_core.specs.Rows.{number_at};
 ghost use Rattle.row_core.specs.Values.{IsOver};
 ghost use Rattle.certificate_checker.specs.Certificates.{AreMultipliersOver, bound_of, Proves, Refutes, BoundsAll, AdmitsNone};
-ghost use Rattle.certificate_checker.specs.Costs.{model_cost};
 ghost use Rattle.certificate_checker.specs.CostNumbers.{number_of, IsCost};
 ghost use Rattle.certificate_checker.specs.MultiplierChecks.{bound_conditions, infeasible_conditions, bound_value};
 ghost use Rattle.certificate_checker.specs.Sums.{HasVariablesOf};
 ghost use Rattle.certificate_checker.specs.Verdicts.{IsVerdict, IfYes, OnYes, OnNo};
 
-use crate::costs::Cost;
+use crate::costs::CostNumbers;
 use crate::multipliers::{Aim, multiplier_verdict};
 use crate::verdicts::Verdict;
 use row_core::{Multipliers, Row, Var};
 use std::alloc::{AllocError, Global};
 
-/// Whether multipliers prove a bound on the cost of the model: their signs in the order of rows, then the columns in the
-/// order of variables. `Yes` carries the bound, the sum of multiplier times right side. `WrongMultiplier` carries the first
-/// row whose multiplier has the wrong sign, `Column` the first variable whose column of multiplier times entry sums up to
-/// more than the cost's number, or for a variable that may be negative to another, with the difference. Refuses only out of
-/// memory.
+/// Whether multipliers prove a bound on a cost: their signs in the order of rows, then the columns in the order of
+/// variables. `Yes` carries the bound, the sum of multiplier times right side. `WrongMultiplier` carries the first row whose
+/// multiplier has the wrong sign, `Column` the first variable whose column of multiplier times entry sums up to more than
+/// the cost's number, or for a variable that may be negative to another, with the difference. Refuses only out of memory.
 pub fn check_bound(
     alloc: Global,
     rows: &[Row],
     vars: &[Var],
-    multipliers: &Multipliers,
-) -> Result<Verdict, AllocError>
-    requires { IsTrue (ascends var_cmp vars.now) }
-    ensures answer { IfOk result (IsVerdict (bound_conditions model_cost rows.now vars.now multipliers.now) (bound_value rows.now (value_in row_name_cmp multipliers.now))) }
-    ensures yes { (s : ℕ) (y : RowName → ℤ) → AreMultipliersOver s y multipliers.now
-        → IfOk result (λ v. IfYes v (λ bound. Proves model_cost rows.now vars.now s y × IsOver (pos s) (value_of bound) (bound_of y rows.now))) }
-    ensures no { (s : ℕ) (y : RowName → ℤ) → AreMultipliersOver s y multipliers.now → IfOk result (λ v. OnNo v (¬ (Proves model_cost rows.now vars.now s y))) }
-    ensures bounds { HasVariablesOf rows.now vars.now → IfOk result (λ v. IfYes v (λ bound. BoundsAll model_cost rows.now vars.now (value_of bound))) }
-{
-    bound_verdict(alloc, rows, vars, &Cost::Model, multipliers)
-}
-
-/// The same with another cost: the sum of each given number times its variable's value. The numbers fit, and ascend
-/// strictly by variable.
-pub fn check_bound_of(
-    alloc: Global,
-    rows: &[Row],
-    vars: &[Var],
-    cost: &[(Var, i128)],
-    multipliers: &Multipliers,
-) -> Result<Verdict, AllocError>
-    requires ascending { IsTrue (ascends var_cmp vars.now) }
-    requires cost_ascending { IsTrue (ascends var_cmp (variables_of cost.now)) }
-    requires cost_fits { IsTrue (all_in_range (numbers_of cost.now)) }
-    ensures answer { IfOk result (IsVerdict (bound_conditions (number_at cost.now) rows.now vars.now multipliers.now) (bound_value rows.now (value_in row_name_cmp multipliers.now))) }
-    ensures yes { (s : ℕ) (y : RowName → ℤ) → AreMultipliersOver s y multipliers.now
-        → IfOk result (λ v. IfYes v (λ bound. Proves (number_at cost.now) rows.now vars.now s y × IsOver (pos s) (value_of bound) (bound_of y rows.now))) }
-    ensures no { (s : ℕ) (y : RowName → ℤ) → AreMultipliersOver s y multipliers.now → IfOk result (λ v. OnNo v (¬ (Proves (number_at cost.now) rows.now vars.now s y))) }
-    ensures bounds { HasVariablesOf rows.now vars.now → IfOk result (λ v. IfYes v (λ bound. BoundsAll (number_at cost.now) rows.now vars.now (value_of bound))) }
-{
-    bound_verdict(alloc, rows, vars, &Cost::Given(cost), multipliers)
-}
-
-/// Whether multipliers prove a bound on a cost.
-fn bound_verdict(
-    alloc: Global,
-    rows: &[Row],
-    vars: &[Var],
-    cost: &Cost<'_>,
+    cost: &CostNumbers<'_>,
     multipliers: &Multipliers,
 ) -> Result<Verdict, AllocError>
     requires ascending { IsTrue (ascends var_cmp vars.now) }
@@ -101,5 +60,12 @@ pub fn check_infeasible(
 {
     // The multipliers are fractions, so they are whole numbers over one denominator.
     let _values = multipliers.entries();
-    multiplier_verdict(alloc, rows, vars, &Cost::Zero, multipliers, Aim::Infeasible)
+    multiplier_verdict(
+        alloc,
+        rows,
+        vars,
+        &CostNumbers::Zero,
+        multipliers,
+        Aim::Infeasible,
+    )
 }

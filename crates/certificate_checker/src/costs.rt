@@ -13,9 +13,9 @@ use exact_num::{Frac, TooWide};
 use row_core::kind_numbers::TOTAL_DISCOUNTED_COST;
 use row_core::{Plan, Var, add_term, fraction, look_up};
 
-/// A number for each variable.
+/// The number that a cost has for each variable.
 #[derive(Clone, Copy)]
-pub(crate) enum Cost<'a> {
+pub enum CostNumbers<'a> {
     /// 1 for TotalDiscountedCost, and 0 for all others.
     Model,
     /// Those of a list that ascends strictly by variable, and 0 for all others.
@@ -25,29 +25,29 @@ pub(crate) enum Cost<'a> {
 }
 
 /// The number of a variable.
-pub(crate) fn number_of(cost: &Cost<'_>, variable: Var) -> i128
+pub(crate) fn number_of(cost: &CostNumbers<'_>, variable: Var) -> i128
     requires { IsCost cost.now }
     ensures value { result ≡ number_of cost.now variable }
     ensures range { InRange result }
 {
     match cost {
-        Cost::Model => {
+        CostNumbers::Model => {
             if variable.kind == TOTAL_DISCOUNTED_COST {
                 1
             } else {
                 0
             }
         }
-        Cost::Given(entries) => match look_up(*entries, variable) {
+        CostNumbers::Given(entries) => match look_up(*entries, variable) {
             Some(number) => number,
             None => 0,
         },
-        Cost::Zero => 0,
+        CostNumbers::Zero => 0,
     }
 }
 
 /// The sum of number times value, in the order of variables.
-pub(crate) fn cost_of(cost: &Cost<'_>, vars: &[Var], plan: &Plan) -> Result<Frac, TooWide>
+pub(crate) fn cost_of(cost: &CostNumbers<'_>, vars: &[Var], plan: &Plan) -> Result<Frac, TooWide>
     requires { IsCost cost.now }
     ensures refused { is_ok result ≡ all_fit (total_formed (value_in var_cmp plan.now) (cost_entries (number_of cost.now) vars.now)) }
     ensures value { IfOk result (λ sum. value_of sum ≡ cost_value (number_of cost.now) vars.now (value_in var_cmp plan.now)) }
@@ -60,7 +60,12 @@ pub(crate) fn cost_of(cost: &Cost<'_>, vars: &[Var], plan: &Plan) -> Result<Frac
 }
 
 /// A sum with what one variable costs.
-fn with_variable(sum: Frac, cost: &Cost<'_>, variable: Var, plan: &Plan) -> Result<Frac, TooWide>
+fn with_variable(
+    sum: Frac,
+    cost: &CostNumbers<'_>,
+    variable: Var,
+    plan: &Plan,
+) -> Result<Frac, TooWide>
     requires { IsCost cost.now }
     ensures refused { is_ok result ≡ all_fit (sum_from_formed (value_in var_cmp plan.now) (value_of sum) (cost_entries (number_of cost.now) (variable ∷ []))) }
     ensures value { IfOk result (λ more. value_of more ≡ sum_from (value_in var_cmp plan.now) (value_of sum) (cost_entries (number_of cost.now) (variable ∷ []))) }

@@ -15,8 +15,9 @@ mod plans;
 mod values;
 mod verdicts;
 
-pub use bounds::{check_bound, check_bound_of, check_infeasible};
+pub use bounds::{check_bound, check_infeasible};
+pub use costs::CostNumbers;
 pub use gaps::check_gap;
 pub use laws::{bound_laws, denominator_laws, direction_laws, infeasible_laws};
-pub use plans::{check_direction, check_direction_of, check_plan};
+pub use plans::{check_direction, check_plan};
 pub use verdicts::{Rejection, Verdict};

@@ -18,7 +18,7 @@ ghost use Rattle.certificate_checker.specs.MultiplierChecks.{is_signed, multipli
 ghost use Rattle.certificate_checker.specs.Verdicts.{IsVerdict};
 
 use crate::columns::column_sums;
-use crate::costs::{Cost, number_of};
+use crate::costs::{CostNumbers, number_of};
 use crate::numbers::{absolute, may_be_negative};
 use crate::verdicts::{Halt, Rejection, Verdict, verdict_of};
 use exact_num::{Frac, TooWide, cmp_frac, sub};
@@ -41,7 +41,7 @@ pub(crate) fn multiplier_verdict(
     alloc: Global,
     rows: &[Row],
     vars: &[Var],
-    cost: &Cost<'_>,
+    cost: &CostNumbers<'_>,
     multipliers: &Multipliers,
     aim: Aim,
 ) -> Result<Verdict, AllocError>
@@ -58,7 +58,7 @@ pub(crate) fn multiplier_verdict(
 fn check_multipliers(
     rows: &[Row],
     vars: &[Var],
-    cost: &Cost<'_>,
+    cost: &CostNumbers<'_>,
     multipliers: &Multipliers,
     aim: Aim,
     sums: &[Option<Frac>],
@@ -110,7 +110,7 @@ fn is_signed(sense: Sense, number: i128) -> bool
 }
 
 /// The columns in the order of variables, of which these are the sums.
-fn check_columns(vars: &[Var], cost: &Cost<'_>, sums: &[Option<Frac>]) -> Result<(), Halt>
+fn check_columns(vars: &[Var], cost: &CostNumbers<'_>, sums: &[Option<Frac>]) -> Result<(), Halt>
     requires cost { IsCost cost.now }
     requires many { length sums.now ≡ length vars.now }
     ensures passed { (rows : List Row) (value : RowName → Rational) → AreColumnSums rows value vars.now sums.now
@@ -125,7 +125,7 @@ fn check_columns(vars: &[Var], cost: &Cost<'_>, sums: &[Option<Frac>]) -> Result
 }
 
 /// The column of one variable, with its sum if all numbers that are formed for it fit.
-fn check_column(variable: Var, cost: &Cost<'_>, sum: Option<Frac>) -> Result<(), Halt>
+fn check_column(variable: Var, cost: &CostNumbers<'_>, sum: Option<Frac>) -> Result<(), Halt>
     requires { IsCost cost.now }
     ensures passed { (rows : List Row) (value : RowName → Rational) → seen sum ≡ column_partial rows value variable
         → OnOk result (AllPass (column_condition (number_of cost.now) rows value variable ∷ [])) }

@@ -1,12 +1,10 @@
 //! Checks of plans and of directions.
 
-ghost use Rattle.std.specs.Prelude.{ℕ, ℤ, pos, ◌≡◌, IsTrue};
+ghost use Rattle.std.specs.Prelude.{ℕ, ℤ, pos};
 ghost use Rattle.exact_num.specs.Value.{value_of};
 ghost use Rattle.row_core.specs.declared.Var.{Var};
-ghost use Rattle.row_core.specs.Numbers.{variables_of, numbers_of, ascends, all_in_range};
 ghost use Rattle.row_core.specs.Order.{var_cmp};
 ghost use Rattle.row_core.specs.Plans.{value_in};
-ghost use Rattle.row_core.specs.Rows.{number_at};
 ghost use Rattle.row_core.specs.Values.{IsOver};
 ghost use Rattle.certificate_checker.specs.Certificates.{Descends, CostsLess};
 ghost use Rattle.certificate_checker.specs.Costs.{model_cost, cost_value, cost_of};
@@ -15,7 +13,7 @@ ghost use Rattle.certificate_checker.specs.PlanChecks.{plan_conditions, directio
 ghost use Rattle.certificate_checker.specs.Plans.{AreValuesOver, MeetsAll};
 ghost use Rattle.certificate_checker.specs.Verdicts.{IsVerdict, IfYes, OnYes, OnNo};
 
-use crate::costs::Cost;
+use crate::costs::CostNumbers;
 use crate::values::{Subject, check_values};
 use crate::verdicts::{Verdict, verdict_of};
 use row_core::{Plan, Row, Var};
@@ -29,42 +27,17 @@ pub fn check_plan(rows: &[Row], vars: &[Var], plan: &Plan) -> Verdict
         → IfYes result (λ cost. MeetsAll rows.now vars.now q x × IsOver (pos q) (value_of cost) (cost_of model_cost vars.now x)) }
     ensures no { (q : ℕ) (x : Var → ℤ) → AreValuesOver q x plan.now → OnNo result (¬ (MeetsAll rows.now vars.now q x)) }
 {
-    verdict_of(check_values(rows, vars, &Cost::Model, plan, Subject::Plan))
+    verdict_of(check_values(rows, vars, &CostNumbers::Model, plan, Subject::Plan))
 }
 
-/// Whether the cost of the model falls without end along a direction: with right sides 0 the rows in order, then the signs
-/// in the order of variables, and last that the cost of the direction is below 0. `Yes` carries that cost.
-pub fn check_direction(rows: &[Row], vars: &[Var], direction: &Plan) -> Verdict
-    ensures answer { IsVerdict (direction_conditions model_cost rows.now vars.now direction.now) (cost_value model_cost vars.now (value_in var_cmp direction.now)) result }
-    ensures yes { (q : ℕ) (d : Var → ℤ) → AreValuesOver q d direction.now
-        → IfYes result (λ cost. Descends model_cost rows.now vars.now d × IsOver (pos q) (value_of cost) (cost_of model_cost vars.now d)) }
-    ensures no { (q : ℕ) (d : Var → ℤ) → AreValuesOver q d direction.now → OnNo result (¬ (Descends model_cost rows.now vars.now d)) }
-    ensures endless { (q : ℕ) (x : Var → ℤ) (n : ℤ) → MeetsAll rows.now vars.now q x → OnYes result (CostsLess model_cost rows.now vars.now n) }
-{
-    direction_verdict(rows, vars, &Cost::Model, direction)
-}
-
-/// The same with another cost: the sum of each given number times its variable's value. The numbers fit, and ascend
-/// strictly by variable.
-pub fn check_direction_of(
+/// Whether a cost falls without end along a direction: with right sides 0 the rows in order, then the signs in the order of
+/// variables, and last that the cost of the direction is below 0. `Yes` carries that cost.
+pub fn check_direction(
     rows: &[Row],
     vars: &[Var],
-    cost: &[(Var, i128)],
+    cost: &CostNumbers<'_>,
     direction: &Plan,
 ) -> Verdict
-    requires ascending { IsTrue (ascends var_cmp (variables_of cost.now)) }
-    requires fits { IsTrue (all_in_range (numbers_of cost.now)) }
-    ensures answer { IsVerdict (direction_conditions (number_at cost.now) rows.now vars.now direction.now) (cost_value (number_at cost.now) vars.now (value_in var_cmp direction.now)) result }
-    ensures yes { (q : ℕ) (d : Var → ℤ) → AreValuesOver q d direction.now
-        → IfYes result (λ sum. Descends (number_at cost.now) rows.now vars.now d × IsOver (pos q) (value_of sum) (cost_of (number_at cost.now) vars.now d)) }
-    ensures no { (q : ℕ) (d : Var → ℤ) → AreValuesOver q d direction.now → OnNo result (¬ (Descends (number_at cost.now) rows.now vars.now d)) }
-    ensures endless { (q : ℕ) (x : Var → ℤ) (n : ℤ) → MeetsAll rows.now vars.now q x → OnYes result (CostsLess (number_at cost.now) rows.now vars.now n) }
-{
-    direction_verdict(rows, vars, &Cost::Given(cost), direction)
-}
-
-/// Whether the cost falls without end along a direction.
-fn direction_verdict(rows: &[Row], vars: &[Var], cost: &Cost<'_>, direction: &Plan) -> Verdict
     requires { IsCost cost.now }
     ensures answer { IsVerdict (direction_conditions (number_of cost.now) rows.now vars.now direction.now) (cost_value (number_of cost.now) vars.now (value_in var_cmp direction.now)) result }
     ensures yes { (q : ℕ) (d : Var → ℤ) → AreValuesOver q d direction.now

@@ -11,7 +11,7 @@ ghost use Rattle.certificate_checker.specs.Costs.{cost_value};
 ghost use Rattle.certificate_checker.specs.Halts.{IsHalt};
 ghost use Rattle.certificate_checker.specs.PlanChecks.{right_of, cost_passes, row_condition, sign_condition, cost_condition, value_conditions};
 
-use crate::costs::{Cost, cost_of};
+use crate::costs::{CostNumbers, cost_of};
 use crate::numbers::{absolute, may_be_negative, stands_to_zero};
 use crate::verdicts::{Halt, Rejection};
 use exact_num::Frac;
@@ -78,7 +78,12 @@ pub(crate) fn check_signs(vars: &[Var], plan: &Plan) -> Result<(), Halt>
 }
 
 /// The cost, which falls for a direction.
-fn check_cost(cost: &Cost<'_>, vars: &[Var], plan: &Plan, subject: Subject) -> Result<Frac, Halt>
+fn check_cost(
+    cost: &CostNumbers<'_>,
+    vars: &[Var],
+    plan: &Plan,
+    subject: Subject,
+) -> Result<Frac, Halt>
     requires { IsCost cost.now }
     ensures passed { OnOk result (AllPass (cost_condition subject (number_of cost.now) vars.now (value_in var_cmp plan.now) ∷ [])) }
     ensures value { IfOk result (λ found. value_of found ≡ cost_value (number_of cost.now) vars.now (value_in var_cmp plan.now)) }
@@ -108,7 +113,7 @@ fn cost_passes(subject: Subject, cost: i128) -> bool
 pub(crate) fn check_values(
     rows: &[Row],
     vars: &[Var],
-    cost: &Cost<'_>,
+    cost: &CostNumbers<'_>,
     plan: &Plan,
     subject: Subject,
 ) -> Result<Frac, Halt>

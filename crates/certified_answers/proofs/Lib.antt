@@ -1,3 +1,2 @@
 pub mod KeyedLaws
-pub mod WeightLaws
 mod Examples

@@ -80,3 +80,10 @@ abbrev pub IsNamed : List Row → Certified → Type 0
 IsNamed rows (Optimal plan multipliers cost bound pivots) = AreNamedIn rows multipliers
 IsNamed rows (Infeasible multipliers pivots) = AreNamedIn rows multipliers
 IsNamed rows (Unbounded plan direction pivots) = ⊤
+
+-- what a guess gives: a plan within the gap of a bound, or a refutation, with a value for each variable and multipliers of rows, by at most so many pivots
+pub record IsFoundBy (rows : List Row) (vars : List Var) (gap pivots : ℕ) (found : Certified) : Type 0 where
+  pub proved : IsProvedWithin rows vars gap found
+  pub within : IsMadeWithin pivots found
+  pub complete : IsComplete vars found
+  pub named : IsNamed rows found

@@ -1,5 +1,5 @@
 -- What is to be as little as it can be: the model's cost, or the value of one variable, as it is or turned.
-use Rattle.std.specs.Prelude.{ℤ, pos, negsuc, Bool, true, false, [], ◌∷◌}
+use Rattle.std.specs.Prelude.{ℤ, pos, negsuc, Bool, true, false, [], ◌∷◌, Option, Some, None}
 use Rattle.row_core.specs.declared.Var.{Var}
 use Rattle.row_core.specs.Rows.{number_at}
 use Rattle.certificate_checker.specs.Costs.{model_cost}
@@ -13,10 +13,18 @@ abbrev pub sign_of : Goal → ℤ
 sign_of Least = pos 1
 sign_of Greatest = negsuc 0
 
+-- the one variable that has a number, with it; none in the model's cost
+abbrev pub one_number : Cost → Option (Var × ℤ)
+one_number Model = None
+one_number (One var goal) = Some (var, sign_of goal)
+
+abbrev pub weight_at : Option (Var × ℤ) → Var → ℤ
+weight_at None = model_cost
+weight_at (Some one) = number_at (one ∷ [])
+
 -- the number of each variable in the cost
 abbrev pub weight_of : Cost → Var → ℤ
-weight_of Model = model_cost
-weight_of (One var goal) = number_at ((var, sign_of goal) ∷ [])
+weight_of cost = weight_at (one_number cost)
 
 -- it is the model's cost
 abbrev pub is_model : Cost → Bool

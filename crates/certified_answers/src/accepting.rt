@@ -23,15 +23,14 @@ ghost use Rattle.certified_answers.specs.declared.answers.NoAnswer.TheVariants.{
 ghost use Rattle.certified_answers.specs.Worth.{IsBoundFor, IsDescentFor, IsNear, IsPlan, IsRefutation, multiplier_bound};
 
 use crate::answers::NoAnswer;
-use crate::costs::{Cost, sign_of};
+use crate::costs::{Cost, numbers_of, one_number};
 use crate::laws::{multiplier_laws, plan_laws};
 use certificate_checker::{
-    Verdict, check_bound, check_bound_of, check_direction, check_direction_of, check_gap,
-    check_infeasible, check_plan,
+    Verdict, check_bound, check_direction, check_gap, check_infeasible, check_plan,
 };
 use exact_num::Frac;
 use row_core::{Multipliers, Plan, Row, Var};
-use std::alloc::{AllocError, Global};
+use std::alloc::Global;
 
 /// The model's cost of a plan that the checker accepts.
 pub fn accepted_plan(rows: &[Row], vars: &[Var], plan: &Plan) -> Result<Frac, NoAnswer>
@@ -63,34 +62,12 @@ pub fn accepted_bound(
     ensures refused { IfErr result (IsRefused (bound_conditions (weight_of cost) rows.now vars.now multipliers.now)) }
 {
     multiplier_laws(multipliers);
-    let verdict = bound_verdict(alloc, rows, vars, cost, multipliers)?;
+    let one = one_number(cost);
+    let verdict = check_bound(alloc, rows, vars, &numbers_of(&one), multipliers)?;
     match verdict {
         Verdict::Yes(bound) => Ok(bound),
         Verdict::Width(place) => Err(NoAnswer::Width(place)),
         Verdict::No(_) => Err(NoAnswer::Nothing),
-    }
-}
-
-/// What the checker says of multipliers at a cost.
-fn bound_verdict(
-    alloc: Global,
-    rows: &[Row],
-    vars: &[Var],
-    cost: Cost,
-    multipliers: &Multipliers,
-) -> Result<Verdict, AllocError>
-    requires { IsTrue (ascends var_cmp vars.now) }
-    ensures answer { IfOk result (IsVerdict (bound_conditions (weight_of cost) rows.now vars.now multipliers.now) (multiplier_bound rows.now multipliers.now)) }
-    ensures yes { (s : ℕ) (y : RowName → ℤ) → AreMultipliersOver s y multipliers.now
-        → IfOk result (λ v. IfYes v (λ bound. Proves (weight_of cost) rows.now vars.now s y × IsOver (pos s) (value_of bound) (bound_of y rows.now))) }
-    ensures no { (s : ℕ) (y : RowName → ℤ) → AreMultipliersOver s y multipliers.now → IfOk result (λ v. OnNo v (¬ (Proves (weight_of cost) rows.now vars.now s y))) }
-    ensures bounds { HasVariablesOf rows.now vars.now → IfOk result (λ v. IfYes v (λ bound. BoundsAll (weight_of cost) rows.now vars.now (value_of bound))) }
-{
-    match cost {
-        Cost::Model => check_bound(alloc, rows, vars, multipliers),
-        Cost::One(var, goal) => {
-            check_bound_of(alloc, rows, vars, &[(var, sign_of(goal))], multipliers)
-        }
     }
 }
 
@@ -143,25 +120,10 @@ pub fn accepted_direction(
     ensures enough { IfErr result (λ stop. stop ≢ Memory) }
 {
     plan_laws(direction);
-    match direction_verdict(rows, vars, cost, direction) {
+    let one = one_number(cost);
+    match check_direction(rows, vars, &numbers_of(&one), direction) {
         Verdict::Yes(_) => Ok(()),
         Verdict::Width(place) => Err(NoAnswer::Width(place)),
         Verdict::No(_) => Err(NoAnswer::Nothing),
-    }
-}
-
-/// What the checker says of a direction at a cost.
-fn direction_verdict(rows: &[Row], vars: &[Var], cost: Cost, direction: &Plan) -> Verdict
-    ensures answer { IsVerdict (direction_conditions (weight_of cost) rows.now vars.now direction.now) (cost_value (weight_of cost) vars.now (value_in var_cmp direction.now)) result }
-    ensures yes { (q : ℕ) (d : Var → ℤ) → AreValuesOver q d direction.now
-        → IfYes result (λ sum. Descends (weight_of cost) rows.now vars.now d × IsOver (pos q) (value_of sum) (cost_of (weight_of cost) vars.now d)) }
-    ensures no { (q : ℕ) (d : Var → ℤ) → AreValuesOver q d direction.now → OnNo result (¬ (Descends (weight_of cost) rows.now vars.now d)) }
-    ensures endless { (q : ℕ) (x : Var → ℤ) (n : ℤ) → MeetsAll rows.now vars.now q x → OnYes result (CostsLess (weight_of cost) rows.now vars.now n) }
-{
-    match cost {
-        Cost::Model => check_direction(rows, vars, direction),
-        Cost::One(var, goal) => {
-            check_direction_of(rows, vars, &[(var, sign_of(goal))], direction)
-        }
     }
 }

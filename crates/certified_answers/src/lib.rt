@@ -10,5 +10,5 @@ pub use accepting::{
     accepted_bound, accepted_direction, accepted_gap, accepted_plan, accepted_refutation,
 };
 pub use answers::{Certified, NoAnswer};
-pub use costs::{Cost, Goal, sign_of};
+pub use costs::{Cost, Goal};
 pub use laws::{multiplier_laws, plan_laws};

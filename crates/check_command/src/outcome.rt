@@ -11,7 +11,7 @@ ghost use Rattle.command_answers.specs.CheckedPlans.{IsBookOf, IsListedBook};
 ghost use Rattle.check_command.specs.CheckOutcomes.{IsCheckedBound, IsCheckedPlan, IsOutcome, OutcomeIsWithin};
 
 use certificate_checker::{
-    Rejection, Verdict, check_bound, check_gap, check_plan, denominator_laws,
+    CostNumbers, Rejection, Verdict, check_bound, check_gap, check_plan, denominator_laws,
 };
 use exact_num::Frac;
 use row_book::RowBook;
@@ -77,7 +77,13 @@ fn bound_outcome(
         → IfOk result (IsOutcome places d book.now.rows plan (Some multipliers.now) gap) }
     ensures within { (sets : SetLists) → IsListedBook sets book.now.rows book.now.vars → IfOk result (OutcomeIsWithin sets) }
 {
-    match check_bound(alloc, book.rows(), book.vars(), multipliers)? {
+    match check_bound(
+        alloc,
+        book.rows(),
+        book.vars(),
+        &CostNumbers::Model,
+        multipliers,
+    )? {
         Verdict::Yes(bound) => Ok(gap_outcome(cost, bound, gap)),
         Verdict::No(rejection) => Ok(Outcome::Rejected(rejection)),
         Verdict::Width(place) => Ok(Outcome::Wide(place)),

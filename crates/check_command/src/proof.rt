@@ -13,7 +13,7 @@ ghost use Rattle.check_command.specs.ProofVerdicts.{IsJudged, TellsVerdict, Verd
 
 use crate::files::{answer_optimum, reject_plan};
 use certificate_checker::{
-    Verdict, check_direction, check_infeasible, check_plan, denominator_laws,
+    CostNumbers, Verdict, check_direction, check_infeasible, check_plan, denominator_laws,
 };
 use command_answers::{Answer, Refusal, Status, Worth, made_book, proof_fault_line, stop_at};
 use model_sets::Sets;
@@ -164,7 +164,7 @@ fn judge_descent(book: &RowBook, plan: &Plan, direction: &Plan) -> Verdict
     let rows = book.rows();
     let vars = book.vars();
     match check_plan(rows, vars, plan) {
-        Verdict::Yes(_) => check_direction(rows, vars, direction),
+        Verdict::Yes(_) => check_direction(rows, vars, &CostNumbers::Model, direction),
         Verdict::No(rejection) => Verdict::No(rejection),
         Verdict::Width(place) => Verdict::Width(place),
     }

@@ -2,8 +2,7 @@
 use Rattle.std.specs.Prelude.{ℕ, List, Option}
 use Rattle.row_core.specs.declared.Row.{Row}
 use Rattle.row_core.specs.declared.Var.{Var}
-use Rattle.certified_answers.specs.Answers.{IsComplete, IsMadeWithin, IsNamed, IsProvedWithin}
-use Rattle.certified_answers.specs.declared.answers.Certified.{Certified}
+pub use Rattle.certified_answers.specs.Answers.{IsFoundBy}
 use Rattle.decimal_solver.specs.Attempts as grid
 use Rattle.exact_solver.specs.MethodEnds as exact
 use Rattle.command_answers.specs.Definers.{definers}
@@ -15,10 +14,3 @@ method_end rows vars pivots = exact.method_end rows (definers rows) vars pivots
 -- the attempt on a grid
 abbrev pub grid_end : List Row → List Var → ℕ → ℕ → Option grid.Attempt
 grid_end rows vars gap pivots = grid.grid_end rows (definers rows) vars gap pivots
-
--- what a guess gives: a plan within the gap of a bound, or a refutation, with a value for each variable and multipliers of rows, by at most so many pivots
-pub record IsFoundBy (rows : List Row) (vars : List Var) (gap pivots : ℕ) (found : Certified) : Type 0 where
-  pub proved : IsProvedWithin rows vars gap found
-  pub within : IsMadeWithin pivots found
-  pub complete : IsComplete vars found
-  pub named : IsNamed rows found

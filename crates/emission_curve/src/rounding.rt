@@ -3,7 +3,7 @@
 ghost use Rattle.std.specs.Prelude.{◌≡◌, IfOk, IfSome};
 ghost use Rattle.row_problem.specs.Prelude.{IsLowest, value_of, AreVariablesOf};
 ghost use Rattle.row_problem.specs.Problems.{IsProblem};
-ghost use Rattle.certified_answers.specs.Answers.{IsProvedWithin};
+ghost use Rattle.certified_answers.specs.Answers.{IsFoundBy};
 ghost use Rattle.emission_curve.specs.Ends.{HasLineBelow, point_seen};
 ghost use Rattle.emission_curve.specs.Points.{IsPointOf, IsRoundedPoint};
 ghost use Rattle.emission_curve.specs.Slopes.{slope_at};
@@ -73,7 +73,7 @@ fn guess_limit(
 ) -> Result<Option<Certified>, AllocError>
     requires problem { IsProblem rows.now defs.now vars.now }
     requires variables { AreVariablesOf rows.now vars.now }
-    ensures { IfOk result (λ found. IfSome found (IsProvedWithin rows.now vars.now ppm)) }
+    ensures { IfOk result (λ found. IfSome found (IsFoundBy rows.now vars.now ppm pivots)) }
 {
     let begin = if start.is_empty() { None } else { Some(start) };
     if let Some(found) = guessed_rows(alloc, rows, defs, vars, begin, ppm, pivots, watcher)? {

@@ -1,11 +1,12 @@
 //! Values and multipliers of the linear program, carried back to all rows and checked.
 
-ghost use Rattle.std.specs.Prelude.{◌≡◌, ◌≤◌, ℕ, IfOk};
+ghost use Rattle.std.specs.Prelude.{◌≡◌, ◌≤◌, IfOk};
 ghost use Rattle.row_core.specs.Numbers.{keys_of};
-ghost use Rattle.certified_answers.specs.Answers.{AreNamedIn, IsComplete, IsMadeWithin, IsNamed, IsProvedWithin};
+ghost use Rattle.certified_answers.specs.Answers.{AreNamedIn, IsFoundBy};
 ghost use Rattle.row_problem.specs.ProgramsOf.{IsPosedProblem};
 ghost use Rattle.rounded_solver.specs.Listed.{AreListed};
 
+use crate::asked::{Limits, NamedRows};
 use crate::plans::{multipliers_in, plan_of};
 use certified_answers::{
     Certified, Cost, NoAnswer, accepted_bound, accepted_gap, accepted_plan, accepted_refutation,
@@ -23,14 +24,12 @@ pub(crate) fn certified(
     problem: &Problem<'_>,
     values: &[Frac],
     lambda: &[Frac],
-    ppm: u32,
+    limits: Limits,
     pivots: u64,
 ) -> Result<Certified, NoAnswer>
-    requires { IsPosedProblem problem.now }
-    ensures proved { IfOk result (IsProvedWithin problem.now.rows.now problem.now.vars.now ppm) }
-    ensures whole { IfOk result (IsComplete problem.now.vars.now) }
-    ensures named { IfOk result (IsNamed problem.now.rows.now) }
-    ensures made { (most : ℕ) → pivots ≤ most → IfOk result (IsMadeWithin most) }
+    requires problem { IsPosedProblem problem.now }
+    requires made { pivots ≤ limits.pivots }
+    ensures { IfOk result (IsFoundBy problem.now.rows.now problem.now.vars.now limits.ppm limits.pivots) }
 {
     if lambda.len() != problem.reduced.rows.len() {
         return Err(NoAnswer::Nothing);
@@ -46,7 +45,7 @@ pub(crate) fn certified(
         problem.vars,
         plan,
         multipliers,
-        ppm,
+        limits,
         pivots,
     )
 }
@@ -54,22 +53,27 @@ pub(crate) fn certified(
 /// The plan of values of all variables, where the checker accepts it, the multipliers of all rows, and the gap between cost and bound.
 pub(crate) fn certified_rows(
     alloc: Global,
-    rows: &[Row],
-    vars: &[Var],
+    asked: &NamedRows<'_>,
     values: &[Frac],
     multipliers: &[Frac],
-    ppm: u32,
+    limits: Limits,
     pivots: u64,
 ) -> Result<Certified, NoAnswer>
-    requires { AreListed rows.now vars.now }
-    ensures proved { IfOk result (IsProvedWithin rows.now vars.now ppm) }
-    ensures whole { IfOk result (IsComplete vars.now) }
-    ensures named { IfOk result (IsNamed rows.now) }
-    ensures made { (most : ℕ) → pivots ≤ most → IfOk result (IsMadeWithin most) }
+    requires listed { AreListed asked.now.rows.now asked.now.vars.now }
+    requires made { pivots ≤ limits.pivots }
+    ensures { IfOk result (IsFoundBy asked.now.rows.now asked.now.vars.now limits.ppm limits.pivots) }
 {
-    let plan = plan_of(alloc, vars, values)?;
-    let multipliers = multipliers_in(alloc, rows, multipliers)?;
-    accepted(alloc, rows, vars, plan, multipliers, ppm, pivots)
+    let plan = plan_of(alloc, asked.vars, values)?;
+    let multipliers = multipliers_in(alloc, asked.rows, multipliers)?;
+    accepted(
+        alloc,
+        asked.rows,
+        asked.vars,
+        plan,
+        multipliers,
+        limits,
+        pivots,
+    )
 }
 
 /// A plan and multipliers, where the checker accepts them and the gap.
@@ -79,18 +83,18 @@ fn accepted(
     vars: &[Var],
     plan: Plan,
     multipliers: Multipliers,
-    ppm: u32,
+    limits: Limits,
     pivots: u64,
 ) -> Result<Certified, NoAnswer>
-    requires { AreListed rows.now vars.now }
-    ensures proved { IfOk result (IsProvedWithin rows.now vars.now ppm) }
-    ensures whole { keys_of plan ≡ vars.now → IfOk result (IsComplete vars.now) }
-    ensures named { AreNamedIn rows.now multipliers → IfOk result (IsNamed rows.now) }
-    ensures made { (most : ℕ) → pivots ≤ most → IfOk result (IsMadeWithin most) }
+    requires listed { AreListed rows.now vars.now }
+    requires complete { keys_of plan ≡ vars.now }
+    requires named { AreNamedIn rows.now multipliers }
+    requires made { pivots ≤ limits.pivots }
+    ensures { IfOk result (IsFoundBy rows.now vars.now limits.ppm limits.pivots) }
 {
     let cost = accepted_plan(rows, vars, &plan)?;
     let bound = accepted_bound(alloc, rows, vars, Cost::Model, &multipliers)?;
-    accepted_gap(cost, bound, ppm)?;
+    accepted_gap(cost, bound, limits.ppm)?;
     Ok(Certified::Optimal {
         plan,
         multipliers,
@@ -100,40 +104,17 @@ fn accepted(
     })
 }
 
-/// The multipliers of all rows, where the checker accepts that they show that there is no plan.
-pub(crate) fn refuted_rows(
-    alloc: Global,
-    rows: &[Row],
-    vars: &[Var],
-    multipliers: &[Frac],
-    pivots: u64,
-) -> Result<Certified, NoAnswer>
-    requires { AreListed rows.now vars.now }
-    ensures proved { (ppm : ℕ) → IfOk result (IsProvedWithin rows.now vars.now ppm) }
-    ensures whole { IfOk result (IsComplete vars.now) }
-    ensures named { IfOk result (IsNamed rows.now) }
-    ensures made { (most : ℕ) → pivots ≤ most → IfOk result (IsMadeWithin most) }
-{
-    let multipliers = multipliers_in(alloc, rows, multipliers)?;
-    accepted_refutation(alloc, rows, vars, &multipliers)?;
-    Ok(Certified::Infeasible {
-        multipliers,
-        pivots,
-    })
-}
-
 /// The multipliers of the rows, carried back to all rows, where the checker accepts that they show that there is no plan.
 pub(crate) fn refuted(
     alloc: Global,
     problem: &Problem<'_>,
     lambda: &[Frac],
+    limits: Limits,
     pivots: u64,
 ) -> Result<Certified, NoAnswer>
-    requires { IsPosedProblem problem.now }
-    ensures proved { (ppm : ℕ) → IfOk result (IsProvedWithin problem.now.rows.now problem.now.vars.now ppm) }
-    ensures whole { IfOk result (IsComplete problem.now.vars.now) }
-    ensures named { IfOk result (IsNamed problem.now.rows.now) }
-    ensures made { (most : ℕ) → pivots ≤ most → IfOk result (IsMadeWithin most) }
+    requires problem { IsPosedProblem problem.now }
+    requires made { pivots ≤ limits.pivots }
+    ensures { IfOk result (IsFoundBy problem.now.rows.now problem.now.vars.now limits.ppm limits.pivots) }
 {
     if lambda.len() != problem.reduced.rows.len() {
         return Err(NoAnswer::Nothing);
@@ -141,6 +122,26 @@ pub(crate) fn refuted(
     let multipliers = carry_multipliers(alloc, problem, lambda, false)?;
     multiplier_laws(&multipliers);
     accepted_refutation(alloc, problem.rows, problem.vars, &multipliers)?;
+    Ok(Certified::Infeasible {
+        multipliers,
+        pivots,
+    })
+}
+
+/// The multipliers of all rows, where the checker accepts that they show that there is no plan.
+pub(crate) fn refuted_rows(
+    alloc: Global,
+    asked: &NamedRows<'_>,
+    multipliers: &[Frac],
+    limits: Limits,
+    pivots: u64,
+) -> Result<Certified, NoAnswer>
+    requires listed { AreListed asked.now.rows.now asked.now.vars.now }
+    requires made { pivots ≤ limits.pivots }
+    ensures { IfOk result (IsFoundBy asked.now.rows.now asked.now.vars.now limits.ppm limits.pivots) }
+{
+    let multipliers = multipliers_in(alloc, asked.rows, multipliers)?;
+    accepted_refutation(alloc, asked.rows, asked.vars, &multipliers)?;
     Ok(Certified::Infeasible {
         multipliers,
         pivots,

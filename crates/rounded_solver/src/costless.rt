@@ -4,20 +4,18 @@
 //! multipliers are 0.
 
 ghost use Rattle.std.specs.Prelude.{◌≤◌, IfOk};
+ghost use Rattle.certified_answers.specs.Answers.{IsFoundBy};
 ghost use Rattle.row_problem.specs.ProgramsOf.{IsPosedProblem};
-ghost use Rattle.rounded_solver.specs.Attempts.{IfFound};
-ghost use Rattle.certified_answers.specs.Answers.{IsComplete, IsMadeWithin, IsNamed, IsProvedWithin};
 
-use crate::attempt::{Attempt, no_guess};
+use crate::asked::{Limits, no_guess};
 use crate::certifying::certified;
 use crate::limit::limited_guess;
 use crate::tries::RoundedEnd;
 use call_stages::{Stage, Watcher};
-use certified_answers::NoAnswer;
+use certified_answers::{Certified, NoAnswer};
 use exact_num::Frac;
 use presolved_program::{Aim, Stop, prepare};
 use rounded_program::{margins_of, rounded_program, values_of};
-use rounded_simplex::Answer;
 use row_core::fraction;
 use row_problem::Problem;
 use std::alloc::{AllocError, Global};
@@ -32,24 +30,22 @@ const DIGITS: i32 = 9;
 pub(crate) fn costless_plan(
     alloc: Global,
     problem: &Problem<'_>,
-    ppm: u32,
-    pivots: u64,
+    limits: Limits,
     watcher: &mut dyn Watcher,
-) -> Result<Attempt, NoAnswer>
+) -> Result<Certified, NoAnswer>
     requires { IsPosedProblem problem.now }
-    ensures proved { IfOk result (IfFound (IsProvedWithin problem.now.rows.now problem.now.vars.now ppm)) }
-    ensures whole { IfOk result (IfFound (IsComplete problem.now.vars.now)) }
-    ensures named { IfOk result (IfFound (IsNamed problem.now.rows.now)) }
-    ensures made { IfOk result (IfFound (IsMadeWithin pivots)) }
+    ensures { IfOk result (IsFoundBy problem.now.rows.now problem.now.vars.now limits.ppm limits.pivots) }
 {
-    match costless_end(alloc, problem.reduced, pivots, watcher) {
-        Ok(end) => {
-            watcher.see(Stage::Checks);
-            let found = certified(alloc, problem, &end.values, &end.lambda, ppm, end.pivots)?;
-            Ok(Attempt::Found(found))
-        }
-        Err(stop) => Err(no_guess(stop)),
-    }
+    let end = costless_end(alloc, problem.reduced, limits.pivots, watcher).map_err(no_guess)?;
+    watcher.see(Stage::Checks);
+    certified(
+        alloc,
+        problem,
+        &end.values,
+        &end.multipliers,
+        limits,
+        end.pivots,
+    )
 }
 
 /// The end of a guess at what costs nothing, with multipliers that are all 0.
@@ -68,18 +64,12 @@ fn costless_end(
     let margins = margins_of(alloc, &smaller, PLACES, DIGITS)?;
     let asked = rounded_program(alloc, &smaller, &margins)?;
     match limited_guess(alloc, &asked, pivots, watcher)? {
-        Answer::Solved(guess) => {
-            watcher.see(Stage::Rounding);
-            let values = values_of(alloc, &smaller, &margins, &guess.values)?;
-            let lambda = zeros(alloc, reduced.rows.len())?;
-            Ok(RoundedEnd {
-                values,
-                lambda,
-                pivots: guess.pivots,
-            })
-        }
-        Answer::NoPlan => Err(Stop::GivenUp),
-        Answer::GivenUp => Err(Stop::GivenUp),
+        Some(guess) => Ok(RoundedEnd {
+            values: values_of(alloc, &smaller, &margins, &guess.values)?,
+            multipliers: zeros(alloc, reduced.rows.len())?,
+            pivots: guess.pivots,
+        }),
+        None => Err(Stop::GivenUp),
     }
 }
 

@@ -5,16 +5,13 @@ ghost use Rattle.row_core.specs.Numbers.{ascends, keys_of};
 ghost use Rattle.row_core.specs.Order.{var_cmp};
 ghost use Rattle.rounded_solver.specs.Guesses.{IfValues};
 
-use crate::limit::{Origin, guess_from};
 use crate::plans::plan_of;
 use crate::refuting::make_guess;
-use crate::starting::{floats_of, starting_basis};
-use crate::tries::rounded_end;
-use call_stages::{Stage, Watcher};
+use crate::tries::{rounded_end, values_end};
+use call_stages::Watcher;
 use exact_num::Frac;
-use presolved_program::{Aim, Stop, prepare};
-use rounded_program::{margins_of, rounded_program, values_of};
-use rounded_simplex::Answer;
+use presolved_program::{Aim, Program, Stop, prepare};
+use rounded_program::margins_of;
 use row_core::Plan;
 use std::alloc::{AllocError, Global};
 use written_method::Reduced;
@@ -68,7 +65,7 @@ pub fn guess_values(
     }
 }
 
-/// The same, where every number fits.
+/// The values of a guess, or why there are none.
 fn values_guessed(
     alloc: Global,
     reduced: &Reduced,
@@ -84,19 +81,29 @@ fn values_guessed(
     if smaller.is_false() {
         return Ok(Guess::NoValues);
     }
-    let margins = margins_of(alloc, &smaller, places, DIGITS)?;
-    let asked = rounded_program(alloc, &smaller, &margins)?;
-    let basis = starting_basis(alloc, &smaller, &asked, start)?;
-    match guess_from(alloc, &asked, &basis, Origin::Values, pivots, watcher)? {
-        Answer::Solved(guess) => {
-            watcher.see(Stage::Rounding);
-            let values = values_of(alloc, &smaller, &margins, &guess.values)?;
-            *start = floats_of(alloc, &values)?;
-            let plan = plan_of(alloc, reduced.columns.as_slice(), &values)?;
+    values_of_smaller(alloc, reduced, &smaller, start, places, pivots, watcher)
+}
+
+/// The values of a guess at the smaller program.
+fn values_of_smaller(
+    alloc: Global,
+    reduced: &Reduced,
+    smaller: &Program,
+    start: &mut Vec<f64>,
+    places: i32,
+    pivots: u64,
+    watcher: &mut dyn Watcher,
+) -> Result<Guess, Stop>
+    requires { ascends var_cmp reduced.now.columns.items ≡ true }
+    ensures { IfOk result (IfValues reduced.now.columns.items) }
+{
+    let margins = margins_of(alloc, smaller, places, DIGITS)?;
+    match values_end(alloc, smaller, &margins, start, pivots, watcher)? {
+        Some(end) => {
+            let plan = plan_of(alloc, reduced.columns.as_slice(), &end.values)?;
             Ok(Guess::Values(plan))
         }
-        Answer::NoPlan => Ok(Guess::NoValues),
-        Answer::GivenUp => Err(Stop::GivenUp),
+        None => Ok(Guess::NoValues),
     }
 }
 
@@ -135,7 +142,7 @@ pub fn guess_optimum(
     }
 }
 
-/// The same, where every number fits.
+/// A guess at the optimum, or why there is none.
 fn optimum_guessed(
     alloc: Global,
     reduced: &Reduced,
@@ -158,7 +165,7 @@ fn optimum_guessed(
     let values = plan_of(alloc, reduced.columns.as_slice(), &end.values)?;
     Ok(GuessedOptimum {
         values,
-        multipliers: end.lambda,
+        multipliers: end.multipliers,
     })
 }
 
@@ -188,7 +195,7 @@ pub fn guess_multipliers(
     }
 }
 
-/// The same, where every number fits.
+/// Guessed multipliers, or why there are none.
 fn multipliers_guessed(
     alloc: Global,
     reduced: &Reduced,
@@ -198,7 +205,7 @@ fn multipliers_guessed(
 ) -> Result<Vec<Frac>, Stop> {
     let smaller = prepare(alloc, reduced, Aim::Refutation)?;
     let guessed = make_guess(alloc, &smaller, digits, pivots, watcher)?;
-    Ok(guessed.lambda)
+    Ok(guessed.multipliers)
 }
 
 /// Whether some multiplier isn't 0.

@@ -2,7 +2,7 @@
 //! of a problem, and given to the checker, whose yes alone decides.
 #![tactic(auto)]
 
-mod attempt;
+mod asked;
 mod carried_back;
 mod certifying;
 mod costless;

@@ -1,11 +1,11 @@
 //! A guess by a limited number of pivots.
 
-ghost use Rattle.std.specs.Prelude.{◌≤◌, IfOk};
-ghost use Rattle.rounded_simplex.specs.Answers.{IfSolved};
+ghost use Rattle.std.specs.Prelude.{◌≤◌, IfOk, IfSome};
 
-use call_stages::Watcher;
-use rounded_simplex::{Answer, LinearProgram, guess};
-use std::alloc::{AllocError, Global};
+use call_stages::{Stage, Watcher};
+use presolved_program::Stop;
+use rounded_simplex::{Answer, Guess, LinearProgram, guess};
+use std::alloc::Global;
 
 /// A tenth of 2^-34: what the guess may miss a row by. The margins have twenty times that.
 const TOLERANCE: f64 = 0.1 / 17179869184.0;
@@ -19,19 +19,20 @@ pub(crate) enum Origin {
     Values,
 }
 
-/// A guess at a linear program by at most so many pivots, and by not many more than there are rows and columns.
+/// A guess at a linear program by at most so many pivots, and by not many more than there are rows and columns. None where there seems to be
+/// no plan.
 pub(crate) fn limited_guess(
     alloc: Global,
     asked: &LinearProgram,
     pivots: u64,
     watcher: &mut dyn Watcher,
-) -> Result<Answer, AllocError>
-    ensures { IfOk result (IfSolved (λ guess. guess.pivots ≤ pivots)) }
+) -> Result<Option<Guess>, Stop>
+    ensures { IfOk result (λ found. IfSome found (λ guess. guess.pivots ≤ pivots)) }
 {
     guess_from(alloc, asked, &[], Origin::Guess, pivots, watcher)
 }
 
-/// The same, from these variables in the basis, where there are any.
+/// Such a guess from these variables in the basis, where there are any.
 pub(crate) fn guess_from(
     alloc: Global,
     asked: &LinearProgram,
@@ -39,17 +40,18 @@ pub(crate) fn guess_from(
     origin: Origin,
     pivots: u64,
     watcher: &mut dyn Watcher,
-) -> Result<Answer, AllocError>
-    ensures { IfOk result (IfSolved (λ guess. guess.pivots ≤ pivots)) }
+) -> Result<Option<Guess>, Stop>
+    ensures { IfOk result (λ found. IfSome found (λ guess. guess.pivots ≤ pivots)) }
 {
-    guess(
-        alloc,
-        asked,
-        start,
-        TOLERANCE,
-        pivot_limit(asked, start, origin, pivots),
-        watcher,
-    )
+    let most = pivot_limit(asked, start, origin, pivots);
+    match guess(alloc, asked, start, TOLERANCE, most, watcher)? {
+        Answer::Solved(found) => {
+            watcher.see(Stage::Rounding);
+            Ok(Some(found))
+        }
+        Answer::NoPlan => Ok(None),
+        Answer::GivenUp => Err(Stop::GivenUp),
+    }
 }
 
 /// Of so many pivots those that a guess may make, from these variables in the basis: at most ten for each row and column, and 1,000 more,

@@ -1,19 +1,17 @@
 //! Tries at multipliers that show that there is no plan.
 
-ghost use Rattle.std.specs.Prelude.{◌≤◌, IfOk, ℕ};
+ghost use Rattle.std.specs.Prelude.{◌≤◌, IfOk};
+ghost use Rattle.certified_answers.specs.Answers.{IsFoundBy};
 ghost use Rattle.row_problem.specs.ProgramsOf.{IsPosedProblem};
-ghost use Rattle.rounded_solver.specs.Attempts.{IfFound};
-ghost use Rattle.certified_answers.specs.Answers.{IsComplete, IsMadeWithin, IsNamed, IsProvedWithin};
 
-use crate::attempt::{Attempt, no_guess};
+use crate::asked::{Limits, no_guess};
 use crate::certifying::refuted;
 use crate::limit::limited_guess;
 use call_stages::{Stage, Watcher};
-use certified_answers::NoAnswer;
+use certified_answers::{Certified, NoAnswer};
 use exact_num::Frac;
 use presolved_program::{Aim, Program, Stop, prepare};
-use rounded_program::{elastic_program, margins_of, multipliers_of};
-use rounded_simplex::Answer;
+use rounded_program::{Margins, elastic_program, margins_of, multipliers_of};
 use row_problem::Problem;
 use std::alloc::Global;
 
@@ -26,7 +24,7 @@ const PLACES: i32 = 7;
 /// Multipliers, and the pivots that they took.
 #[derive(Drop)]
 pub(crate) struct Refuting {
-    pub(crate) lambda: Vec<Frac>,
+    pub(crate) multipliers: Vec<Frac>,
     pub(crate) pivots: u64,
 }
 
@@ -34,26 +32,21 @@ pub(crate) struct Refuting {
 pub(crate) fn refutation(
     alloc: Global,
     problem: &Problem<'_>,
-    pivots: u64,
+    limits: Limits,
     watcher: &mut dyn Watcher,
-) -> Result<Attempt, NoAnswer>
+) -> Result<Certified, NoAnswer>
     requires { IsPosedProblem problem.now }
-    ensures proved { (ppm : ℕ) → IfOk result (IfFound (IsProvedWithin problem.now.rows.now problem.now.vars.now ppm)) }
-    ensures whole { IfOk result (IfFound (IsComplete problem.now.vars.now)) }
-    ensures named { IfOk result (IfFound (IsNamed problem.now.rows.now)) }
-    ensures made { IfOk result (IfFound (IsMadeWithin pivots)) }
+    ensures { IfOk result (IsFoundBy problem.now.rows.now problem.now.vars.now limits.ppm limits.pivots) }
 {
     let smaller = prepare(alloc, problem.reduced, Aim::Refutation).map_err(no_guess)?;
     for digits in TRIES {
-        match one_try(alloc, problem, &smaller, digits, pivots, watcher) {
-            Ok(Attempt::Found(found)) => return Ok(Attempt::Found(found)),
-            Ok(Attempt::NoPlan) => {}
-            Ok(Attempt::Nothing) => {}
+        match one_try(alloc, problem, &smaller, digits, limits, watcher) {
+            Ok(found) => return Ok(found),
             Err(NoAnswer::Memory) => return Err(NoAnswer::Memory),
             Err(_) => {}
         }
     }
-    Ok(Attempt::Nothing)
+    Err(NoAnswer::Nothing)
 }
 
 /// One try, with so many significant digits.
@@ -62,22 +55,18 @@ fn one_try(
     problem: &Problem<'_>,
     smaller: &Program,
     digits: i32,
-    pivots: u64,
+    limits: Limits,
     watcher: &mut dyn Watcher,
-) -> Result<Attempt, NoAnswer>
+) -> Result<Certified, NoAnswer>
     requires { IsPosedProblem problem.now }
-    ensures proved { (ppm : ℕ) → IfOk result (IfFound (IsProvedWithin problem.now.rows.now problem.now.vars.now ppm)) }
-    ensures whole { IfOk result (IfFound (IsComplete problem.now.vars.now)) }
-    ensures named { IfOk result (IfFound (IsNamed problem.now.rows.now)) }
-    ensures made { IfOk result (IfFound (IsMadeWithin pivots)) }
+    ensures { IfOk result (IsFoundBy problem.now.rows.now problem.now.vars.now limits.ppm limits.pivots) }
 {
-    let guessed = make_guess(alloc, smaller, digits, pivots, watcher).map_err(no_guess)?;
+    let guessed = make_guess(alloc, smaller, digits, limits.pivots, watcher).map_err(no_guess)?;
     watcher.see(Stage::Checks);
-    let found = refuted(alloc, problem, &guessed.lambda, guessed.pivots)?;
-    Ok(Attempt::Found(found))
+    refuted(alloc, problem, &guessed.multipliers, limits, guessed.pivots)
 }
 
-/// The multipliers of a guess. Where a row is false as it stands, nothing has to be guessed.
+/// The multipliers of a guess.
 pub(crate) fn make_guess(
     alloc: Global,
     smaller: &Program,
@@ -88,21 +77,43 @@ pub(crate) fn make_guess(
     ensures made { IfOk result (λ guessed. guessed.pivots ≤ pivots) }
 {
     let margins = margins_of(alloc, smaller, PLACES, digits)?;
+    let guess = elastic_guess(alloc, smaller, &margins, pivots, watcher)?;
+    let multipliers = multipliers_of(alloc, smaller, &margins, &guess.multipliers)?;
+    Ok(Refuting {
+        multipliers,
+        pivots: guess.pivots,
+    })
+}
+
+/// Multipliers before they are rounded, and the pivots that they took.
+#[derive(Drop)]
+pub(crate) struct ElasticGuess {
+    pub(crate) multipliers: Vec<f64>,
+    pub(crate) pivots: u64,
+}
+
+/// A guess at multipliers that show that there is no plan. Where a row is false as it stands, nothing has to be guessed, and there are none.
+pub(crate) fn elastic_guess(
+    alloc: Global,
+    smaller: &Program,
+    margins: &Margins,
+    pivots: u64,
+    watcher: &mut dyn Watcher,
+) -> Result<ElasticGuess, Stop>
+    ensures made { IfOk result (λ guessed. guessed.pivots ≤ pivots) }
+{
     if smaller.is_false() {
-        let lambda = multipliers_of(alloc, smaller, &margins, &[])?;
-        return Ok(Refuting { lambda, pivots: 0 });
+        return Ok(ElasticGuess {
+            multipliers: Vec::new(alloc),
+            pivots: 0,
+        });
     }
-    let asked = elastic_program(alloc, smaller, &margins)?;
+    let asked = elastic_program(alloc, smaller, margins)?;
     match limited_guess(alloc, &asked, pivots, watcher)? {
-        Answer::Solved(guess) => {
-            watcher.see(Stage::Rounding);
-            let lambda = multipliers_of(alloc, smaller, &margins, &guess.multipliers)?;
-            Ok(Refuting {
-                lambda,
-                pivots: guess.pivots,
-            })
-        }
-        Answer::NoPlan => Err(Stop::GivenUp),
-        Answer::GivenUp => Err(Stop::GivenUp),
+        Some(guess) => Ok(ElasticGuess {
+            multipliers: guess.multipliers,
+            pivots: guess.pivots,
+        }),
+        None => Err(Stop::GivenUp),
     }
 }

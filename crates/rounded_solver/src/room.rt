@@ -1,5 +1,6 @@
 //! How many decimals the values and multipliers of a problem's rows may have, so that what the checks form of them fits.
 
+use crate::asked::NamedRows;
 use crate::sizes::{
     bound_size, column_sum, cost_size, multipliers_of_all, places_within, sum_errors, values_of_all,
 };
@@ -65,28 +66,47 @@ pub(crate) fn room_of(
         combined: places_within(bound_size(rows, &all_multipliers))?.saturating_sub(BESIDE_BALANCE),
         errors: sum_errors(alloc, vars, layout, 0)?,
     };
+    limit_usages(&mut room, rows, vars, layout, &all_values, &all_multipliers)?;
+    limit_defined(&mut room, rows, layout)?;
+    let whole_cost = places_within(cost_size(vars, &all_values))?;
+    limit_by_cost(&mut room, rows, vars, layout, whole_cost)?;
+    Ok(room)
+}
+
+/// Limits the decimals of what the rows of used capacities name.
+fn limit_usages(
+    room: &mut Room,
+    rows: &[Row],
+    vars: &[Var],
+    layout: &Layout,
+    values: &[f64],
+    multipliers: &[f64],
+) -> Result<(), Stop> {
     for (place, row) in rows.iter().enumerate() {
         let entries = item(&layout.rows, place)?;
         if row.name.eq == CAB1 {
-            let size = usage_size(vars, entries, &all_values)?;
-            limit_usage(&mut room, vars, entries, places_within(size)?)?;
-            let column = sum_at_capacity(vars, layout, entries, &all_multipliers)?;
+            let size = usage_size(vars, entries, values)?;
+            limit_usage(room, vars, entries, places_within(size)?)?;
+            let column = sum_at_capacity(vars, layout, entries, multipliers)?;
             put(&mut room.digits, place, places_within(column.max(LEAST))?)?;
         }
     }
+    Ok(())
+}
+
+/// Limits the modes of an activity, and notes the parts of the year.
+fn limit_defined(room: &mut Room, rows: &[Row], layout: &Layout) -> Result<(), Stop> {
     for (place, row) in rows.iter().enumerate() {
         if let Some(variable) = at(&layout.defined, place)? {
             let entries = item(&layout.rows, place)?;
             if row.name.eq == CAA3 {
-                limit_modes(&mut room, entries, variable)?;
+                limit_modes(room, entries, variable)?;
             } else if row.name.eq == ACC3 {
-                note_units(&mut room, entries, variable)?;
+                note_units(room, entries, variable)?;
             }
         }
     }
-    let whole_cost = places_within(cost_size(vars, &all_values))?;
-    limit_by_cost(&mut room, rows, vars, layout, whole_cost)?;
-    Ok(room)
+    Ok(())
 }
 
 /// The greater side of the row that says how much of a capacity is used in a year.
@@ -250,41 +270,70 @@ fn times_of(number: i128, factor: i128) -> i32 {
 /// they may have as many. New capacities are rounded upward, and raised until the total capacity has no more decimals than it may have.
 pub(crate) fn rounding_within(
     alloc: Global,
-    rows: &[Row],
-    vars: &[Var],
+    asked: &NamedRows<'_>,
     layout: &Layout,
     program: &Program,
     room: &Room,
     places: i32,
 ) -> Result<Rounding, Stop> {
     let mut rounding = plain_rounding(alloc, program, places)?;
-    rounding.combined = rounding.combined.min(room.combined);
-    let rises = rises_of(alloc, rows, layout, room)?;
-    let raised = raisable(alloc, program)?;
+    limit_values(&mut rounding, asked.vars, layout, program, room, places)?;
+    limit_rises(alloc, &mut rounding, asked, layout, program, room)?;
+    limit_digits(&mut rounding, layout, room)?;
+    Ok(rounding)
+}
+
+/// Limits the decimals of values.
+fn limit_values(
+    rounding: &mut Rounding,
+    vars: &[Var],
+    layout: &Layout,
+    program: &Program,
+    room: &Room,
+    places: i32,
+) -> Result<(), Stop> {
     for (column, variable) in layout.chosen.iter().enumerate() {
         let unit = at(&room.units, *variable)?;
-        let kind = at(vars, *variable)?.kind;
         let mut cost = at(&program.all.costs, column)?;
-        if kind == RATE_OF_ACTIVITY {
+        if at(vars, *variable)?.kind == RATE_OF_ACTIVITY {
             cost = cost / presolved_program::float_of_frac(unit);
         }
         let wanted = places_beside(cost, places)?.min(at(&room.places, *variable)?);
         put(&mut rounding.units, column, unit)?;
         put(&mut rounding.places, column, wanted)?;
         put(&mut rounding.errors, column, at(&room.errors, *variable)?)?;
-        if kind == NEW_CAPACITY && at(&raised, column)? {
+    }
+    Ok(())
+}
+
+/// Limits how much new capacities are raised.
+fn limit_rises(
+    alloc: Global,
+    rounding: &mut Rounding,
+    asked: &NamedRows<'_>,
+    layout: &Layout,
+    program: &Program,
+    room: &Room,
+) -> Result<(), Stop> {
+    let rises = rises_of(alloc, asked.rows, layout, room)?;
+    let raised = raisable(alloc, program)?;
+    for (column, variable) in layout.chosen.iter().enumerate() {
+        if at(asked.vars, *variable)?.kind == NEW_CAPACITY && at(&raised, column)? {
             put(&mut rounding.rises, column, at(&rises, *variable)?)?;
         }
     }
+    Ok(())
+}
+
+/// Limits the digits of multipliers.
+fn limit_digits(rounding: &mut Rounding, layout: &Layout, room: &Room) -> Result<(), Stop> {
+    rounding.combined = rounding.combined.min(room.combined);
     for (place, row) in layout.left.iter().enumerate() {
         let most = at(&rounding.digits, place)?;
-        put(
-            &mut rounding.digits,
-            place,
-            most.min(at(&room.digits, *row)?),
-        )?;
+        let digits = most.min(at(&room.digits, *row)?);
+        put(&mut rounding.digits, place, digits)?;
     }
-    Ok(rounding)
+    Ok(())
 }
 
 /// How much each new capacity may be raised: a unit of the last place of each total capacity that has it.

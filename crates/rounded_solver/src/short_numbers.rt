@@ -4,21 +4,24 @@
 
 ghost use Rattle.std.specs.Prelude.{◌≤◌, IfOk, IfSome};
 
+use crate::asked::NamedRows;
 use crate::carried_back::{Proving, multipliers_of_rows};
-use crate::limit::{Origin, guess_from, limited_guess};
+use crate::limit::{Origin, guess_from};
 use crate::raising::raised_values;
+use crate::refuting::{Refuting, elastic_guess};
 use crate::room::{Room, room_of, rounding_within};
 use crate::sizes::sum_errors;
 use crate::starting::{column_values, starting_basis};
+use crate::tries::RoundedEnd;
 use call_stages::{Stage, Watcher};
 use exact_num::Frac;
 use presolved_program::{Aim, Layout, Program, Stop, at, layout_of, prepare_rows, put};
 use rounded_program::{
-    Margins, Rounding, elastic_program, margins_for, margins_of, named_multipliers, plain_rounding,
-    rounded_program, values_of,
+    Margins, Rounding, margins_for, margins_of, named_multipliers, plain_rounding, rounded_program,
+    values_of,
 };
-use rounded_simplex::{Answer, LinearProgram};
-use row_core::{Row, Var};
+use rounded_simplex::LinearProgram;
+use row_core::Var;
 use std::alloc::Global;
 
 /// The decimals of values and the significant digits of multipliers of the first guess, of which the sizes alone count.
@@ -26,20 +29,17 @@ const PLACES: i32 = 8;
 
 const DIGITS: i32 = 10;
 
-/// A value for each variable and a multiplier for each row, in order, and the pivots that they took.
-#[derive(Drop)]
-pub(crate) struct ShortEnd {
-    pub(crate) values: Vec<Frac>,
-    pub(crate) multipliers: Vec<Frac>,
-    pub(crate) pivots: u64,
-}
-
-/// What guesses are made of: the rows by places, the smaller program, and the room for decimals; the basis at which the first guess
-/// ended, and the pivots that it took.
+/// What guesses are made of: the rows by places, the smaller program, and what the first guess tells.
 #[derive(Drop)]
 pub(crate) struct Measured {
     layout: Layout,
     smaller: Program,
+    first: FirstRoom,
+}
+
+/// The room for decimals that the first guess leaves, the basis at which it ended, and the pivots that it took.
+#[derive(Drop)]
+struct FirstRoom {
     room: Room,
     basis: Vec<usize>,
     pivots: u64,
@@ -58,27 +58,52 @@ struct Ended {
 /// variable, where there are any. None where there seems to be no plan.
 pub(crate) fn measure(
     alloc: Global,
-    rows: &[Row],
-    defs: &[Option<Var>],
-    vars: &[Var],
+    asked: &NamedRows<'_>,
     start: Option<&[f64]>,
     pivots: u64,
     watcher: &mut dyn Watcher,
 ) -> Result<Option<Measured>, Stop>
-    ensures { IfOk result (λ first. IfSome first (λ measured. measured.pivots ≤ pivots)) }
+    ensures { IfOk result (λ first. IfSome first (λ measured. measured.first.pivots ≤ pivots)) }
 {
     watcher.see(Stage::Elimination);
-    let layout = layout_of(alloc, rows, defs, vars)?;
-    let smaller = prepare_rows(alloc, rows, vars, &layout, Aim::Cheapest)?;
+    let layout = layout_of(alloc, asked.rows, asked.defs, asked.vars)?;
+    let smaller = prepare_rows(alloc, asked.rows, asked.vars, &layout, Aim::Cheapest)?;
     if smaller.is_false() {
         return Ok(None);
     }
-    match first_guess(alloc, &layout, &smaller, start, pivots, watcher)? {
+    match first_room(alloc, asked, &layout, &smaller, start, pivots, watcher)? {
+        Some(first) => Ok(Some(Measured {
+            layout,
+            smaller,
+            first,
+        })),
+        None => Ok(None),
+    }
+}
+
+/// The first guess, and the room that it leaves. None where there seems to be no plan.
+fn first_room(
+    alloc: Global,
+    asked: &NamedRows<'_>,
+    layout: &Layout,
+    smaller: &Program,
+    start: Option<&[f64]>,
+    pivots: u64,
+    watcher: &mut dyn Watcher,
+) -> Result<Option<FirstRoom>, Stop>
+    ensures { IfOk result (λ first. IfSome first (λ f. f.pivots ≤ pivots)) }
+{
+    match first_guess(alloc, layout, smaller, start, pivots, watcher)? {
         Some(first) => {
-            let room = room_of(alloc, rows, vars, &layout, &first.values, &first.named)?;
-            Ok(Some(Measured {
+            let room = room_of(
+                alloc,
+                asked.rows,
+                asked.vars,
                 layout,
-                smaller,
+                &first.values,
+                &first.named,
+            )?;
+            Ok(Some(FirstRoom {
                 room,
                 basis: first.basis,
                 pivots: first.pivots,
@@ -129,19 +154,13 @@ fn end_of_guess(
     ensures made { IfOk result (λ end. IfSome end (λ e. e.pivots ≤ pivots)) }
 {
     match guess_from(alloc, asked, start, origin, pivots, watcher)? {
-        Answer::Solved(guess) => {
-            watcher.see(Stage::Rounding);
-            let values = values_of(alloc, smaller, margins, &guess.values)?;
-            let named = named_multipliers(alloc, smaller, margins, &guess.multipliers)?;
-            Ok(Some(Ended {
-                values,
-                named,
-                pivots: guess.pivots,
-                basis: guess.basis,
-            }))
-        }
-        Answer::NoPlan => Ok(None),
-        Answer::GivenUp => Err(Stop::GivenUp),
+        Some(guess) => Ok(Some(Ended {
+            values: values_of(alloc, smaller, margins, &guess.values)?,
+            named: named_multipliers(alloc, smaller, margins, &guess.multipliers)?,
+            pivots: guess.pivots,
+            basis: guess.basis,
+        })),
+        None => Ok(None),
     }
 }
 
@@ -149,48 +168,53 @@ fn end_of_guess(
 /// the first guess, with all pivots that both took. None where there seems to be no plan.
 pub(crate) fn short_end(
     alloc: Global,
-    rows: &[Row],
-    vars: &[Var],
+    asked: &NamedRows<'_>,
     measured: Measured,
     places: i32,
     digits: i32,
     pivots: u64,
     watcher: &mut dyn Watcher,
-) -> Result<Option<ShortEnd>, Stop>
-    requires { measured.pivots ≤ pivots }
+) -> Result<Option<RoundedEnd>, Stop>
+    requires { measured.first.pivots ≤ pivots }
     ensures made { IfOk result (λ end. IfSome end (λ e. e.pivots ≤ pivots)) }
 {
     let Measured {
         layout,
         smaller,
-        room,
-        basis,
-        pivots: taken,
+        first,
     } = measured;
-    let rounding = rounding_within(alloc, rows, vars, &layout, &smaller, &room, places)?;
+    let rounding = rounding_within(alloc, asked, &layout, &smaller, &first.room, places)?;
+    let left = pivots - first.pivots;
     match last_guess(
         alloc,
         smaller,
-        basis,
         rounding,
+        &first.basis,
         digits,
-        pivots - taken,
+        left,
         watcher,
     )? {
         Some(end) => {
-            let values = raised_values(alloc, rows, vars, &layout, &room, &end.values)?;
+            let values = raised_values(
+                alloc,
+                asked.rows,
+                asked.vars,
+                &layout,
+                &first.room,
+                &end.values,
+            )?;
             let multipliers = multipliers_of_rows(
                 alloc,
-                vars,
+                asked.vars,
                 &layout,
                 &end.named,
                 Proving::Bound,
                 0,
             )?;
-            Ok(Some(ShortEnd {
+            Ok(Some(RoundedEnd {
                 values,
                 multipliers,
-                pivots: taken + end.pivots,
+                pivots: first.pivots + end.pivots,
             }))
         }
         None => Ok(None),
@@ -202,8 +226,8 @@ pub(crate) fn short_end(
 fn last_guess(
     alloc: Global,
     smaller: Program,
-    basis: Vec<usize>,
     rounding: Rounding,
+    basis: &[usize],
     digits: i32,
     pivots: u64,
     watcher: &mut dyn Watcher,
@@ -217,7 +241,7 @@ fn last_guess(
         &smaller,
         &margins,
         &asked,
-        &basis,
+        basis,
         Origin::Guess,
         pivots,
         watcher,
@@ -232,18 +256,13 @@ pub(crate) struct Doubt {
 }
 
 /// The rows by places, and the smaller program without costs.
-pub(crate) fn without_costs(
-    alloc: Global,
-    rows: &[Row],
-    defs: &[Option<Var>],
-    vars: &[Var],
-) -> Result<Doubt, Stop> {
-    let layout = layout_of(alloc, rows, defs, vars)?;
-    let smaller = prepare_rows(alloc, rows, vars, &layout, Aim::Refutation)?;
+pub(crate) fn without_costs(alloc: Global, asked: &NamedRows<'_>) -> Result<Doubt, Stop> {
+    let layout = layout_of(alloc, asked.rows, asked.defs, asked.vars)?;
+    let smaller = prepare_rows(alloc, asked.rows, asked.vars, &layout, Aim::Refutation)?;
     Ok(Doubt { layout, smaller })
 }
 
-/// A multiplier for each row, in order, and the pivots that they took: they should show that there is no plan. No value is given.
+/// A multiplier for each row, in order, and the pivots that they took: they should show that there is no plan.
 pub(crate) fn short_refuting(
     alloc: Global,
     vars: &[Var],
@@ -252,18 +271,18 @@ pub(crate) fn short_refuting(
     more: i32,
     pivots: u64,
     watcher: &mut dyn Watcher,
-) -> Result<ShortEnd, Stop>
+) -> Result<Refuting, Stop>
     ensures made { IfOk result (λ end. end.pivots ≤ pivots) }
 {
     let layout = &doubt.layout;
     let smaller = &doubt.smaller;
     let margins = refuting_margins(alloc, vars, layout, smaller, digits, more)?;
-    let end = refuting_end(alloc, smaller, &margins, pivots, watcher)?;
-    let multipliers = multipliers_of_rows(alloc, vars, layout, &end.named, Proving::NoPlan, more)?;
-    Ok(ShortEnd {
-        values: end.values,
+    let guess = elastic_guess(alloc, smaller, &margins, pivots, watcher)?;
+    let named = named_multipliers(alloc, smaller, &margins, &guess.multipliers)?;
+    let multipliers = multipliers_of_rows(alloc, vars, layout, &named, Proving::NoPlan, more)?;
+    Ok(Refuting {
         multipliers,
-        pivots: end.pivots,
+        pivots: guess.pivots,
     })
 }
 
@@ -282,40 +301,4 @@ fn refuting_margins(
         put(&mut rounding.errors, column, at(&errors, *variable)?)?;
     }
     margins_for(alloc, smaller, rounding, digits)
-}
-
-/// Multipliers of the rows that are no equations. Where a row is false as it stands, nothing has to be guessed.
-fn refuting_end(
-    alloc: Global,
-    smaller: &Program,
-    margins: &Margins,
-    pivots: u64,
-    watcher: &mut dyn Watcher,
-) -> Result<Ended, Stop>
-    ensures made { IfOk result (λ end. end.pivots ≤ pivots) }
-{
-    if smaller.is_false() {
-        let named = named_multipliers(alloc, smaller, margins, &[])?;
-        return Ok(Ended {
-            values: Vec::new(alloc),
-            named,
-            pivots: 0,
-            basis: Vec::new(alloc),
-        });
-    }
-    let asked = elastic_program(alloc, smaller, margins)?;
-    match limited_guess(alloc, &asked, pivots, watcher)? {
-        Answer::Solved(guess) => {
-            watcher.see(Stage::Rounding);
-            let named = named_multipliers(alloc, smaller, margins, &guess.multipliers)?;
-            Ok(Ended {
-                values: Vec::new(alloc),
-                named,
-                pivots: guess.pivots,
-                basis: guess.basis,
-            })
-        }
-        Answer::NoPlan => Err(Stop::GivenUp),
-        Answer::GivenUp => Err(Stop::GivenUp),
-    }
 }

@@ -1,11 +1,10 @@
 //! Tries with numbers that are short by their size, over named rows alone.
 
-ghost use Rattle.std.specs.Prelude.{◌≤◌, IfOk, IfSome, ℕ};
+ghost use Rattle.std.specs.Prelude.{◌≤◌, IfOk, IfSome};
+ghost use Rattle.certified_answers.specs.Answers.{IsFoundBy};
 ghost use Rattle.rounded_solver.specs.Listed.{AreListed};
-ghost use Rattle.rounded_solver.specs.Attempts.{IfFound};
-ghost use Rattle.certified_answers.specs.Answers.{IsComplete, IsMadeWithin, IsNamed, IsProvedWithin};
 
-use crate::attempt::{Attempt, no_guess};
+use crate::asked::{Limits, NamedRows, no_guess};
 use crate::certifying::{certified_rows, refuted_rows};
 use crate::short_numbers::{Doubt, Measured, measure, short_end, short_refuting, without_costs};
 use call_stages::{Stage, Watcher};
@@ -39,164 +38,102 @@ pub fn guessed_rows(
     watcher: &mut dyn Watcher,
 ) -> Result<Option<Certified>, AllocError>
     requires { AreListed rows.now vars.now }
-    ensures proved { IfOk result (λ found. IfSome found (IsProvedWithin rows.now vars.now ppm)) }
-    ensures whole { IfOk result (λ found. IfSome found (IsComplete vars.now)) }
-    ensures named { IfOk result (λ found. IfSome found (IsNamed rows.now)) }
-    ensures made { IfOk result (λ found. IfSome found (IsMadeWithin pivots)) }
+    ensures { IfOk result (λ found. IfSome found (IsFoundBy rows.now vars.now ppm pivots)) }
 {
-    match short_attempts(alloc, rows, defs, vars, start, ppm, pivots, watcher) {
-        Ok(Attempt::Found(found)) => Ok(Some(found)),
-        Ok(Attempt::NoPlan) => Ok(None),
-        Ok(Attempt::Nothing) => Ok(None),
+    let asked = NamedRows { rows, defs, vars };
+    match short_attempts(alloc, &asked, start, Limits { ppm, pivots }, watcher) {
+        Ok(found) => Ok(found),
         Err(NoAnswer::Memory) => Err(AllocError),
         Err(_) => Ok(None),
     }
 }
 
-/// A plan of least cost by guesses from given values, and where they find none, by guesses from nothing: so values that are far off hide
-/// none.
+/// A plan of least cost by guesses from given values, and where they find none, by guesses from nothing: so values that are far off, or
+/// make numbers that don't fit, hide none. Where there seems to be none, what proves that.
 fn short_attempts(
     alloc: Global,
-    rows: &[Row],
-    defs: &[Option<Var>],
-    vars: &[Var],
+    asked: &NamedRows<'_>,
     start: Option<&[f64]>,
-    ppm: u32,
-    pivots: u64,
+    limits: Limits,
     watcher: &mut dyn Watcher,
-) -> Result<Attempt, NoAnswer>
-    requires { AreListed rows.now vars.now }
-    ensures proved { IfOk result (IfFound (IsProvedWithin rows.now vars.now ppm)) }
-    ensures whole { IfOk result (IfFound (IsComplete vars.now)) }
-    ensures named { IfOk result (IfFound (IsNamed rows.now)) }
-    ensures made { IfOk result (IfFound (IsMadeWithin pivots)) }
+) -> Result<Option<Certified>, NoAnswer>
+    requires { AreListed asked.now.rows.now asked.now.vars.now }
+    ensures { IfOk result (λ found. IfSome found (IsFoundBy asked.now.rows.now asked.now.vars.now limits.ppm limits.pivots)) }
 {
-    match started_plan(alloc, rows, defs, vars, start, ppm, pivots, watcher)? {
-        Attempt::Found(found) => Ok(Attempt::Found(found)),
-        Attempt::NoPlan => attempts_anew(alloc, rows, defs, vars, ppm, pivots, watcher),
-        Attempt::Nothing => attempts_anew(alloc, rows, defs, vars, ppm, pivots, watcher),
+    if start.is_some() {
+        match short_plan(alloc, asked, start, limits, watcher) {
+            Ok(Some(found)) => return Ok(Some(found)),
+            Err(NoAnswer::Memory) => return Err(NoAnswer::Memory),
+            _ => {}
+        }
+    }
+    match short_plan(alloc, asked, None, limits, watcher)? {
+        Some(found) => Ok(Some(found)),
+        None => Ok(Some(short_refutation(alloc, asked, limits, watcher)?)),
     }
 }
 
-/// A plan of least cost by guesses from nothing; where there seems to be none, what proves that.
-fn attempts_anew(
-    alloc: Global,
-    rows: &[Row],
-    defs: &[Option<Var>],
-    vars: &[Var],
-    ppm: u32,
-    pivots: u64,
-    watcher: &mut dyn Watcher,
-) -> Result<Attempt, NoAnswer>
-    requires { AreListed rows.now vars.now }
-    ensures proved { IfOk result (IfFound (IsProvedWithin rows.now vars.now ppm)) }
-    ensures whole { IfOk result (IfFound (IsComplete vars.now)) }
-    ensures named { IfOk result (IfFound (IsNamed rows.now)) }
-    ensures made { IfOk result (IfFound (IsMadeWithin pivots)) }
-{
-    match short_plan(alloc, rows, defs, vars, None, ppm, pivots, watcher)? {
-        Attempt::Found(found) => Ok(Attempt::Found(found)),
-        Attempt::NoPlan => short_refutation(alloc, rows, defs, vars, pivots, watcher),
-        Attempt::Nothing => Ok(Attempt::Nothing),
-    }
-}
-
-/// The first try from given values at a plan that the checker accepts. Nothing, where there are none, or they make numbers that don't fit.
-fn started_plan(
-    alloc: Global,
-    rows: &[Row],
-    defs: &[Option<Var>],
-    vars: &[Var],
-    start: Option<&[f64]>,
-    ppm: u32,
-    pivots: u64,
-    watcher: &mut dyn Watcher,
-) -> Result<Attempt, NoAnswer>
-    requires { AreListed rows.now vars.now }
-    ensures proved { IfOk result (IfFound (IsProvedWithin rows.now vars.now ppm)) }
-    ensures whole { IfOk result (IfFound (IsComplete vars.now)) }
-    ensures named { IfOk result (IfFound (IsNamed rows.now)) }
-    ensures made { IfOk result (IfFound (IsMadeWithin pivots)) }
-{
-    if start.is_none() {
-        return Ok(Attempt::Nothing);
-    }
-    match short_plan(alloc, rows, defs, vars, start, ppm, pivots, watcher) {
-        Ok(attempt) => Ok(attempt),
-        Err(NoAnswer::Memory) => Err(NoAnswer::Memory),
-        Err(_) => Ok(Attempt::Nothing),
-    }
-}
-
-/// The first try at a plan that the checker accepts.
+/// The first try at a plan that the checker accepts. None where there seems to be no plan.
 fn short_plan(
     alloc: Global,
-    rows: &[Row],
-    defs: &[Option<Var>],
-    vars: &[Var],
+    asked: &NamedRows<'_>,
     start: Option<&[f64]>,
-    ppm: u32,
-    pivots: u64,
+    limits: Limits,
     watcher: &mut dyn Watcher,
-) -> Result<Attempt, NoAnswer>
-    requires { AreListed rows.now vars.now }
-    ensures proved { IfOk result (IfFound (IsProvedWithin rows.now vars.now ppm)) }
-    ensures whole { IfOk result (IfFound (IsComplete vars.now)) }
-    ensures named { IfOk result (IfFound (IsNamed rows.now)) }
-    ensures made { IfOk result (IfFound (IsMadeWithin pivots)) }
+) -> Result<Option<Certified>, NoAnswer>
+    requires { AreListed asked.now.rows.now asked.now.vars.now }
+    ensures { IfOk result (λ found. IfSome found (IsFoundBy asked.now.rows.now asked.now.vars.now limits.ppm limits.pivots)) }
 {
     for (places, digits) in TRIES {
-        let first = measure(alloc, rows, defs, vars, start, pivots, watcher).map_err(no_guess)?;
+        let first = measure(alloc, asked, start, limits.pivots, watcher).map_err(no_guess)?;
         let Some(measured) = first else {
-            return Ok(Attempt::NoPlan);
+            return Ok(None);
         };
-        match one_try(
-            alloc, rows, vars, measured, places, digits, ppm, pivots, watcher,
-        ) {
-            Ok(Attempt::Found(found)) => return Ok(Attempt::Found(found)),
-            Ok(Attempt::NoPlan) => return Ok(Attempt::NoPlan),
-            Ok(Attempt::Nothing) => {}
+        match one_try(alloc, asked, measured, places, digits, limits, watcher) {
+            Ok(found) => return Ok(found),
             Err(NoAnswer::Memory) => return Err(NoAnswer::Memory),
             Err(_) => {}
         }
     }
-    Ok(Attempt::Nothing)
+    Err(NoAnswer::Nothing)
 }
 
 /// One try, with so many decimals where there is room for them. What was measured is gone before the checks, in which memory is needed most.
 fn one_try(
     alloc: Global,
-    rows: &[Row],
-    vars: &[Var],
+    asked: &NamedRows<'_>,
     measured: Measured,
     places: i32,
     digits: i32,
-    ppm: u32,
-    pivots: u64,
+    limits: Limits,
     watcher: &mut dyn Watcher,
-) -> Result<Attempt, NoAnswer>
-    requires listed { AreListed rows.now vars.now }
-    requires pivots { measured.pivots ≤ pivots }
-    ensures proved { IfOk result (IfFound (IsProvedWithin rows.now vars.now ppm)) }
-    ensures whole { IfOk result (IfFound (IsComplete vars.now)) }
-    ensures named { IfOk result (IfFound (IsNamed rows.now)) }
-    ensures made { IfOk result (IfFound (IsMadeWithin pivots)) }
+) -> Result<Option<Certified>, NoAnswer>
+    requires listed { AreListed asked.now.rows.now asked.now.vars.now }
+    requires made { measured.first.pivots ≤ limits.pivots }
+    ensures { IfOk result (λ found. IfSome found (IsFoundBy asked.now.rows.now asked.now.vars.now limits.ppm limits.pivots)) }
 {
-    match short_end(alloc, rows, vars, measured, places, digits, pivots, watcher) {
+    match short_end(
+        alloc,
+        asked,
+        measured,
+        places,
+        digits,
+        limits.pivots,
+        watcher,
+    ) {
         Ok(Some(end)) => {
             watcher.see(Stage::Checks);
             let found = certified_rows(
                 alloc,
-                rows,
-                vars,
+                asked,
                 &end.values,
                 &end.multipliers,
-                ppm,
+                limits,
                 end.pivots,
             )?;
-            Ok(Attempt::Found(found))
+            Ok(Some(found))
         }
-        Ok(None) => Ok(Attempt::NoPlan),
+        Ok(None) => Ok(None),
         Err(stop) => Err(no_guess(stop)),
     }
 }
@@ -204,50 +141,47 @@ fn one_try(
 /// The first try at multipliers that show that there is no plan that the checker accepts.
 fn short_refutation(
     alloc: Global,
-    rows: &[Row],
-    defs: &[Option<Var>],
-    vars: &[Var],
-    pivots: u64,
+    asked: &NamedRows<'_>,
+    limits: Limits,
     watcher: &mut dyn Watcher,
-) -> Result<Attempt, NoAnswer>
-    requires { AreListed rows.now vars.now }
-    ensures proved { (ppm : ℕ) → IfOk result (IfFound (IsProvedWithin rows.now vars.now ppm)) }
-    ensures whole { IfOk result (IfFound (IsComplete vars.now)) }
-    ensures named { IfOk result (IfFound (IsNamed rows.now)) }
-    ensures made { IfOk result (IfFound (IsMadeWithin pivots)) }
+) -> Result<Certified, NoAnswer>
+    requires { AreListed asked.now.rows.now asked.now.vars.now }
+    ensures { IfOk result (IsFoundBy asked.now.rows.now asked.now.vars.now limits.ppm limits.pivots) }
 {
-    let doubt = without_costs(alloc, rows, defs, vars).map_err(no_guess)?;
+    let doubt = without_costs(alloc, asked).map_err(no_guess)?;
     for (digits, more) in REFUTING {
-        match one_refuting_try(alloc, rows, vars, &doubt, digits, more, pivots, watcher) {
-            Ok(Attempt::Found(found)) => return Ok(Attempt::Found(found)),
-            Ok(Attempt::NoPlan) => {}
-            Ok(Attempt::Nothing) => {}
+        match one_refuting_try(alloc, asked, &doubt, digits, more, limits, watcher) {
+            Ok(found) => return Ok(found),
             Err(NoAnswer::Memory) => return Err(NoAnswer::Memory),
             Err(_) => {}
         }
     }
-    Ok(Attempt::Nothing)
+    Err(NoAnswer::Nothing)
 }
 
 /// One try at such multipliers.
 fn one_refuting_try(
     alloc: Global,
-    rows: &[Row],
-    vars: &[Var],
+    asked: &NamedRows<'_>,
     doubt: &Doubt,
     digits: i32,
     more: i32,
-    pivots: u64,
+    limits: Limits,
     watcher: &mut dyn Watcher,
-) -> Result<Attempt, NoAnswer>
-    requires { AreListed rows.now vars.now }
-    ensures proved { (ppm : ℕ) → IfOk result (IfFound (IsProvedWithin rows.now vars.now ppm)) }
-    ensures whole { IfOk result (IfFound (IsComplete vars.now)) }
-    ensures named { IfOk result (IfFound (IsNamed rows.now)) }
-    ensures made { IfOk result (IfFound (IsMadeWithin pivots)) }
+) -> Result<Certified, NoAnswer>
+    requires { AreListed asked.now.rows.now asked.now.vars.now }
+    ensures { IfOk result (IsFoundBy asked.now.rows.now asked.now.vars.now limits.ppm limits.pivots) }
 {
-    let end = short_refuting(alloc, vars, doubt, digits, more, pivots, watcher).map_err(no_guess)?;
+    let guessed = short_refuting(
+        alloc,
+        asked.vars,
+        doubt,
+        digits,
+        more,
+        limits.pivots,
+        watcher,
+    );
+    let end = guessed.map_err(no_guess)?;
     watcher.see(Stage::Checks);
-    let found = refuted_rows(alloc, rows, vars, &end.multipliers, end.pivots)?;
-    Ok(Attempt::Found(found))
+    refuted_rows(alloc, asked, &end.multipliers, limits, end.pivots)
 }

@@ -1,17 +1,17 @@
 //! The attempt over the rows of a problem.
 
 ghost use Rattle.std.specs.Prelude.{◌≡◌, IfOk, IfSome};
+ghost use Rattle.certified_answers.specs.Answers.{IsFoundBy};
 ghost use Rattle.row_problem.specs.ProgramsOf.{IsPosedProblem};
-ghost use Rattle.rounded_solver.specs.Attempts.{IfFound};
-ghost use Rattle.certified_answers.specs.Answers.{IsComplete, IsMadeWithin, IsNamed, IsProvedWithin};
 ghost use Rattle.certified_answers.specs.declared.costs.Cost.TheVariants.{Model};
 
-use crate::attempt::Attempt;
+use crate::asked::{Limits, no_guess};
 use crate::costless::costless_plan;
 use crate::refuting::refutation;
 use crate::tries::cheapest_plan;
 use call_stages::Watcher;
 use certified_answers::{Certified, NoAnswer};
+use presolved_program::{Aim, prepare};
 use row_problem::Problem;
 use std::alloc::{AllocError, Global};
 
@@ -30,15 +30,10 @@ pub fn guessed(
 ) -> Result<Option<Certified>, AllocError>
     requires problem { IsPosedProblem problem.now }
     requires model { problem.now.cost ≡ Model }
-    ensures proved { IfOk result (λ found. IfSome found (IsProvedWithin problem.now.rows.now problem.now.vars.now ppm)) }
-    ensures whole { IfOk result (λ found. IfSome found (IsComplete problem.now.vars.now)) }
-    ensures named { IfOk result (λ found. IfSome found (IsNamed problem.now.rows.now)) }
-    ensures made { IfOk result (λ found. IfSome found (IsMadeWithin pivots)) }
+    ensures { IfOk result (λ found. IfSome found (IsFoundBy problem.now.rows.now problem.now.vars.now ppm pivots)) }
 {
-    match attempts(alloc, problem, ppm, pivots, watcher) {
-        Ok(Attempt::Found(found)) => Ok(Some(found)),
-        Ok(Attempt::NoPlan) => Ok(None),
-        Ok(Attempt::Nothing) => Ok(None),
+    match attempts(alloc, problem, Limits { ppm, pivots }, watcher) {
+        Ok(found) => Ok(found),
         Err(NoAnswer::Memory) => Err(AllocError),
         Err(_) => Ok(None),
     }
@@ -49,19 +44,17 @@ pub fn guessed(
 fn attempts(
     alloc: Global,
     problem: &Problem<'_>,
-    ppm: u32,
-    pivots: u64,
+    limits: Limits,
     watcher: &mut dyn Watcher,
-) -> Result<Attempt, NoAnswer>
+) -> Result<Option<Certified>, NoAnswer>
     requires { IsPosedProblem problem.now }
-    ensures proved { IfOk result (IfFound (IsProvedWithin problem.now.rows.now problem.now.vars.now ppm)) }
-    ensures whole { IfOk result (IfFound (IsComplete problem.now.vars.now)) }
-    ensures named { IfOk result (IfFound (IsNamed problem.now.rows.now)) }
-    ensures made { IfOk result (IfFound (IsMadeWithin pivots)) }
+    ensures { IfOk result (λ found. IfSome found (IsFoundBy problem.now.rows.now problem.now.vars.now limits.ppm limits.pivots)) }
 {
-    match cheapest_plan(alloc, problem, ppm, pivots, watcher)? {
-        Attempt::Found(found) => Ok(Attempt::Found(found)),
-        Attempt::NoPlan => refutation(alloc, problem, pivots, watcher),
-        Attempt::Nothing => costless_plan(alloc, problem, ppm, pivots, watcher),
+    let smaller = prepare(alloc, problem.reduced, Aim::Cheapest).map_err(no_guess)?;
+    match cheapest_plan(alloc, problem, smaller, limits, watcher) {
+        Ok(Some(found)) => Ok(Some(found)),
+        Ok(None) => Ok(Some(refutation(alloc, problem, limits, watcher)?)),
+        Err(NoAnswer::Memory) => Err(NoAnswer::Memory),
+        Err(_) => Ok(Some(costless_plan(alloc, problem, limits, watcher)?)),
     }
 }

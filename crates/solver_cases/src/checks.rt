@@ -5,13 +5,13 @@ ghost use Rattle.std.specs.Prelude.{IsTrue};
 ghost use Rattle.exact_num.specs.Range.{InRange};
 ghost use Rattle.row_core.specs.Numbers.{variables_of, numbers_of, ascends, all_in_range};
 ghost use Rattle.row_core.specs.Order.{var_cmp};
+ghost use Rattle.certificate_checker.specs.CostNumbers.{IsCost};
 
 use crate::numbers::{fraction_of, next_fraction};
 use crate::small_rows::{ACTIVITY, CAPACITY, FIRST, NAMES, number, rows};
 use crate::verdicts::told;
 use certificate_checker::{
-    Verdict, check_bound, check_bound_of, check_direction, check_direction_of, check_gap,
-    check_infeasible, check_plan,
+    CostNumbers, Verdict, check_bound, check_direction, check_gap, check_infeasible, check_plan,
 };
 use row_core::kind_numbers::TOTAL_DISCOUNTED_COST;
 use row_core::{Multipliers, Plan, Row, Var};
@@ -64,11 +64,8 @@ fn check_along(
     cost: &str,
 ) -> Result<Verdict, AllocError> {
     let direction = plan(alloc, values)?;
-    if cost.is_empty() {
-        Ok(check_direction(rows, &VARS, &direction))
-    } else {
-        Ok(check_direction_of(rows, &VARS, &costs(cost), &direction))
-    }
+    let numbers = costs(cost);
+    Ok(check_direction(rows, &VARS, &numbers_in(cost, &numbers), &direction))
 }
 
 /// What is said of the bound of these multipliers.
@@ -79,10 +76,26 @@ fn check_proof(
     cost: &str,
 ) -> Result<Verdict, AllocError> {
     let multipliers = multipliers(alloc, values)?;
-    if cost.is_empty() {
-        check_bound(alloc, rows, &VARS, &multipliers)
+    let numbers = costs(cost);
+    check_bound(
+        alloc,
+        rows,
+        &VARS,
+        &numbers_in(cost, &numbers),
+        &multipliers,
+    )
+}
+
+/// The cost of these numbers, and where none are written the model's.
+fn numbers_in<'a>(text: &str, numbers: &'a [(Var, i128)]) -> CostNumbers<'a>
+    requires ascending { IsTrue (ascends var_cmp (variables_of numbers.now)) }
+    requires fits { IsTrue (all_in_range (numbers_of numbers.now)) }
+    ensures { IsCost result }
+{
+    if text.is_empty() {
+        CostNumbers::Model
     } else {
-        check_bound_of(alloc, rows, &VARS, &costs(cost), &multipliers)
+        CostNumbers::Given(numbers)
     }
 }
 

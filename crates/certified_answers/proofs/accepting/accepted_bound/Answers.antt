@@ -1,15 +1,18 @@
 -- The checker's answer.
-use Rattle.std.proofs.Common.{ℕ, ℤ, subst}
+use Rattle.std.proofs.Common.{◌≡◌, ℕ, ℤ, sym, ap, ◌∙◌, subst}
 use Rattle.std.specs.Prelude.{pos}
 use Rattle.exact_num.specs.Value.{value_of}
 use Rattle.row_core.specs.declared.RowName.{RowName}
+use Rattle.row_core.specs.declared.Var.{Var}
 use Rattle.row_core.specs.Values.{IsOver}
 use Rattle.certificate_checker.specs.declared.verdicts.Verdict.TheVariants.{Yes}
 use Rattle.certificate_checker.specs.Certificates.{AreMultipliersOver, BoundsAll, Proves, bound_of}
+use Rattle.certificate_checker.specs.CostNumbers.{number_of}
 use Rattle.certificate_checker.specs.MultiplierChecks.{bound_conditions}
 use Rattle.certificate_checker.specs.Verdicts.{IfYes, IsVerdict, OnNo}
-use Rattle.certified_answers.specs.Costs.{weight_of}
-use Rattle.certified_answers.specs.Worth.{multiplier_bound}
+use Rattle.certified_answers.specs.Costs.{weight_at, weight_of}
+use Rattle.certified_answers.specs.Found.{IsFoundBoundFor}
+use Rattle.certified_answers.specs.Worth.{IsBoundFor, multiplier_bound}
 use Rattle.certified_answers.proofs.accepting.accepted_bound.Goals as goal
 
 pub returns-in-Yes-clause-bound : goal.returns-in-Yes-clause-bound
@@ -17,25 +20,29 @@ returns-in-Yes-clause-bound c =
     let rows = c.args.rows.now in
     let vars = c.args.vars.now in
     let m = c.args.multipliers.now in
-    let weight = weight_of c.args.cost in
+    let weight = number_of c.numbers_of.result in
+    let same : weight ≡ weight_of c.args.cost = c.numbers_of.ensures.numbers ∙ ap weight_at c.one_number-one.ensures.value in
     let bound = c.in-Yes.bound in
     let answer : IsVerdict (bound_conditions weight rows vars m) (multiplier_bound rows m) (Yes bound) =
     subst (λ v. IsVerdict (bound_conditions weight rows vars m) (multiplier_bound rows m) v) c.in-Yes.is c.in_ok-verdict.ensures.answer in
     let yes : (s : ℕ) (y : RowName → ℤ) → AreMultipliersOver s y m → Proves weight rows vars s y × IsOver (pos s) (value_of bound) (bound_of y rows)
     = λ s y are. subst (λ v. IfYes v (λ b. Proves weight rows vars s y × IsOver (pos s) (value_of b) (bound_of y rows))) c.in-Yes.is (c.in_ok-verdict.ensures.yes s y are) in
-    record {
+    subst (λ (w : Var → ℤ). IsBoundFor w rows vars m (value_of bound)) same
+    (record {
       pass = answer.0;
       some = c.multiplier_laws.ensures.some;
       proves = λ s y are. (yes s y are).0;
       sums = λ s y are. (yes s y are).1;
       bounds = subst (λ v. IfYes v (λ b. BoundsAll weight rows vars (value_of b))) c.in-Yes.is (c.in_ok-verdict.ensures.bounds c.requires.listed);
       bound_is = answer.1;
-    }
+    })
 
 pub returns-in-No-clause-found : goal.returns-in-No-clause-found
 returns-in-No-clause-found c = λ found.
     let rows = c.args.rows.now in
     let vars = c.args.vars.now in
-    let weight = weight_of c.args.cost in
-    let no : ¬ (Proves weight rows vars found.over found.number) = subst (λ v. OnNo v (¬ (Proves weight rows vars found.over found.number))) c.in-No.is (c.in_ok-verdict.ensures.no found.over found.number found.are) in
-    absurd (no found.proves)
+    let weight = number_of c.numbers_of.result in
+    let same : weight ≡ weight_of c.args.cost = c.numbers_of.ensures.numbers ∙ ap weight_at c.one_number-one.ensures.value in
+    let f = subst (λ (w : Var → ℤ). IsFoundBoundFor w rows vars c.args.multipliers.now) (sym same) found in
+    let no : ¬ (Proves weight rows vars f.over f.number) = subst (λ v. OnNo v (¬ (Proves weight rows vars f.over f.number))) c.in-No.is (c.in_ok-verdict.ensures.no f.over f.number f.are) in
+    absurd (no f.proves)

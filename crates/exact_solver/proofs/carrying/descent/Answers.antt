@@ -1,7 +1,6 @@
 -- What is carried back is what the checks ask for, and the steps come one part after another.
 use Rattle.row_problem.proofs.Common.{◌∙◌, refl, sym, err_from_is_err_and, first_wide-append, stop_of}
 use Rattle.row_problem.proofs.CompletePlans.{direction-complete, plan-complete}
-use Rattle.exact_solver.specs.MethodEnds.{unbounded_end}
 use Rattle.row_problem.proofs.FoundWords.{found-plan}
 use Rattle.exact_solver.proofs.FoundLaws.{found-descent}
 use Rattle.exact_solver.proofs.StepEnds.{of-part, stops-by}
@@ -9,19 +8,15 @@ use Rattle.exact_solver.proofs.carrying.descent.Goals as goal
 
 pub returns-in_err-plan-clause-end : goal.returns-in_err-plan-clause-end
 returns-in_err-plan-clause-end c =
-    let p = c.args.problem.now in
-    let end = unbounded_end p.cost p.rows.now p.defs.now p.vars.now c.args.values.now c.args.direction.now c.args.pivots in
     let e = c.in_err-plan.field-0.0 in
     let q = err_from_is_err_and c.from_residual.result c.from_residual.ensures.1 in
-    rw (q.1, q.2) (stops-by _ (stop_of e) end (of-part _ e c.in_err-plan.ensures.stopped) (λ place h. rw (first_wide-append, h) refl))
+    rw (q.1, q.2) (stops-by _ (stop_of e) _ (of-part _ e c.in_err-plan.ensures.stopped) (λ place h. rw (first_wide-append, h) refl))
 
 pub returns-in_err-along-clause-end : goal.returns-in_err-along-clause-end
 returns-in_err-along-clause-end c =
-    let p = c.args.problem.now in
-    let end = unbounded_end p.cost p.rows.now p.defs.now p.vars.now c.args.values.now c.args.direction.now c.args.pivots in
     let e = c.in_err-along.field-0.0 in
     let q = err_from_is_err_and c.from_residual-in_err-along.result c.from_residual-in_err-along.ensures.1 in
-    rw (q.1, q.2) (stops-by _ (stop_of e) end (of-part _ e c.in_err-along.ensures.stopped) (λ place h. rw (first_wide-append, c.in_ok-plan.ensures.fits, first_wide-append, h) refl))
+    rw (q.1, q.2) (stops-by _ (stop_of e) _ (of-part _ e c.in_err-along.ensures.stopped) (λ place h. rw (first_wide-append, c.in_ok-plan.ensures.fits, first_wide-append, h) refl))
 
 pub checked_descent-requires-clause-plan : goal.checked_descent-requires-clause-plan
 checked_descent-requires-clause-plan c =

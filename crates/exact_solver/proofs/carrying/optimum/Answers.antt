@@ -1,7 +1,6 @@
 -- What is carried back is what the checks ask for, and the steps come one part after another.
 use Rattle.row_problem.proofs.Common.{◌∙◌, refl, ap, sym, length, map, length-map, err_from_is_err_and, first_wide-append, value_of, inequality_of, stop_of}
 use Rattle.row_problem.proofs.CompletePlans.{multipliers-named, plan-complete}
-use Rattle.exact_solver.specs.MethodEnds.{optimal_end}
 use Rattle.exact_solver.proofs.FoundLaws.{found-optimum}
 use Rattle.row_problem.proofs.OverLaws.{some-over}
 use Rattle.exact_solver.proofs.StepEnds.{of-part, stops-by}
@@ -9,11 +8,9 @@ use Rattle.exact_solver.proofs.carrying.optimum.Goals as goal
 
 pub returns-in_err-plan-clause-end : goal.returns-in_err-plan-clause-end
 returns-in_err-plan-clause-end c =
-    let p = c.args.problem.now in
-    let end = optimal_end p.cost p.rows.now p.defs.now p.vars.now c.args.values.now c.args.lambda.now c.args.pivots in
     let e = c.in_err-plan.field-0.0 in
     let q = err_from_is_err_and c.from_residual.result c.from_residual.ensures.1 in
-    rw (q.1, q.2) (stops-by _ (stop_of e) end (of-part _ e c.in_err-plan.ensures.stopped) (λ place h. rw (first_wide-append, h) refl))
+    rw (q.1, q.2) (stops-by _ (stop_of e) _ (of-part _ e c.in_err-plan.ensures.stopped) (λ place h. rw (first_wide-append, h) refl))
 
 pub carry_multipliers-requires-clause-counted : goal.carry_multipliers-requires-clause-counted
 carry_multipliers-requires-clause-counted c =
@@ -21,12 +18,10 @@ carry_multipliers-requires-clause-counted c =
 
 pub returns-in_err-multipliers-clause-end : goal.returns-in_err-multipliers-clause-end
 returns-in_err-multipliers-clause-end c =
-    let p = c.args.problem.now in
-    let end = optimal_end p.cost p.rows.now p.defs.now p.vars.now c.args.values.now c.args.lambda.now c.args.pivots in
     let e = c.in_err-multipliers.field-0.0 in
     let stopped = rw (c.is_model.ensures, c.entries.ensures) at c.in_err-multipliers.ensures.stopped in
     let q = err_from_is_err_and c.from_residual-in_err-multipliers.result c.from_residual-in_err-multipliers.ensures.1 in
-    rw (q.1, q.2) (stops-by _ (stop_of e) end (of-part _ e stopped) (λ place h. rw (first_wide-append, c.in_ok-plan.ensures.fits, first_wide-append, h) refl))
+    rw (q.1, q.2) (stops-by _ (stop_of e) _ (of-part _ e stopped) (λ place h. rw (first_wide-append, c.in_ok-plan.ensures.fits, first_wide-append, h) refl))
 
 pub checked_optimum-requires-clause-found : goal.checked_optimum-requires-clause-found
 checked_optimum-requires-clause-found c =

@@ -1,7 +1,6 @@
 -- What is carried back is what the check asks for, and its steps come before those of the check.
 use Rattle.row_problem.proofs.Common.{◌∙◌, refl, false, length, map, ap, sym, length-map, err_from_is_err_and, first_wide-append, value_of, inequality_of, stop_of}
 use Rattle.row_problem.proofs.CompletePlans.{multipliers-named}
-use Rattle.exact_solver.specs.MethodEnds.{infeasible_end}
 use Rattle.row_problem.proofs.FoundWords.{found-refutation}
 use Rattle.row_problem.proofs.OverLaws.{some-over}
 use Rattle.exact_solver.proofs.StepEnds.{of-part, stops-by}
@@ -13,11 +12,9 @@ carry_multipliers-requires-clause-counted c =
 
 pub returns-in_err-multipliers-clause-end : goal.returns-in_err-multipliers-clause-end
 returns-in_err-multipliers-clause-end c =
-    let p = c.args.problem.now in
-    let end = infeasible_end p.rows.now p.defs.now p.vars.now c.args.lambda.now c.args.pivots in
     let e = c.in_err-multipliers.field-0.0 in
     let q = err_from_is_err_and c.from_residual.result c.from_residual.ensures.1 in
-    rw (q.1, q.2) (stops-by _ (stop_of e) end (of-part _ e (rw c.entries.ensures at c.in_err-multipliers.ensures.stopped)) (λ place h. rw (first_wide-append, h) refl))
+    rw (q.1, q.2) (stops-by _ (stop_of e) _ (of-part _ e (rw c.entries.ensures at c.in_err-multipliers.ensures.stopped)) (λ place h. rw (first_wide-append, h) refl))
 
 pub checked_refutation-requires-clause-found : goal.checked_refutation-requires-clause-found
 checked_refutation-requires-clause-found c =

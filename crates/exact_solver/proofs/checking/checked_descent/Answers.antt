@@ -1,24 +1,19 @@
 -- The checks one after another: each stops where its first number that doesn't fit is.
-use Rattle.row_problem.proofs.Common.{refl, subst, err_from_is_err_and, first_wide, first_wide-append, IsPlan}
-use Rattle.exact_solver.specs.MethodEnds.{HasNoBound, descent_checks, unless_wide}
+use Rattle.row_problem.proofs.Common.{refl, subst, err_from_is_err_and, first_wide-append, IsPlan}
 use Rattle.exact_solver.proofs.StepEnds.{stops-by}
 use Rattle.exact_solver.proofs.WorthLaws.{descent-at}
 use Rattle.exact_solver.proofs.checking.checked_descent.Goals as goal
 
 pub returns-in_err-accepted_plan-clause-end : goal.returns-in_err-accepted_plan-clause-end
 returns-in_err-accepted_plan-clause-end c =
-    let p = c.args.problem.now in
-    let end = unless_wide (first_wide (descent_checks p.cost p.rows.now p.vars.now c.args.plan c.args.direction)) (HasNoBound c.args.plan c.args.direction c.args.pivots) in
     let q = err_from_is_err_and c.from_residual.result c.from_residual.ensures.1 in
-    rw (q.1, q.2) (stops-by _ c.in_err-accepted_plan.field-0.0 end (c.in_err-accepted_plan.ensures.found c.requires.plan) (λ place h. rw (first_wide-append, h) refl))
+    rw (q.1, q.2) (stops-by _ c.in_err-accepted_plan.field-0.0 _ (c.in_err-accepted_plan.ensures.found c.requires.plan) (λ place h. rw (first_wide-append, h) refl))
 
 pub returns-in_err-accepted_direction-clause-end : goal.returns-in_err-accepted_direction-clause-end
 returns-in_err-accepted_direction-clause-end c =
-    let p = c.args.problem.now in
-    let end = unless_wide (first_wide (descent_checks p.cost p.rows.now p.vars.now c.args.plan c.args.direction)) (HasNoBound c.args.plan c.args.direction c.args.pivots) in
     let q = err_from_is_err_and c.from_residual-in_err-accepted_direction.result c.from_residual-in_err-accepted_direction.ensures.1 in
     rw (q.1, q.2)
-    (stops-by _ c.in_err-accepted_direction.field-0.0 end (c.in_err-accepted_direction.ensures.found c.requires.direction) (λ place h. rw (first_wide-append, c.in_ok-accepted_plan.ensures.plan.pass.fit, h) refl))
+    (stops-by _ c.in_err-accepted_direction.field-0.0 _ (c.in_err-accepted_direction.ensures.found c.requires.direction) (λ place h. rw (first_wide-append, c.in_ok-accepted_plan.ensures.plan.pass.fit, h) refl))
 
 pub returns-clause-end : goal.returns-clause-end
 returns-clause-end c = rw (first_wide-append, c.in_ok-accepted_plan.ensures.plan.pass.fit, c.in_ok-accepted_direction.ensures.descent.pass.fit) refl

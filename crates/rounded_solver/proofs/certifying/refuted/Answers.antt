@@ -4,7 +4,12 @@ use Rattle.exact_num.specs.Value.{value_of}
 use Rattle.row_problem.proofs.CompletePlans.{multipliers-named}
 use Rattle.rounded_solver.proofs.certifying.refuted.Goals as goal
 
-pub returns-clause-named : goal.returns-clause-named
-returns-clause-named c =
+pub returns : goal.returns
+returns c =
     let problem = c.args.problem.now in
-    multipliers-named false problem.rows.now problem.defs.now (map value_of c.args.lambda.now) c.in_ok-multipliers.multipliers c.in_ok-multipliers.ensures.multipliers c.multiplier_laws.ensures.ascending
+    record {
+      proved = c.in_ok-accepted_refutation.ensures.refutation;
+      within = c.requires.made;
+      complete = tt;
+      named = multipliers-named false problem.rows.now problem.defs.now (map value_of c.args.lambda.now) c.in_ok-multipliers.multipliers c.in_ok-multipliers.ensures.multipliers c.multiplier_laws.ensures.ascending;
+    }

@@ -10,7 +10,7 @@ use Rattle.certificate_checker.specs.Denominators.{AreOverSome}
 use Rattle.certificate_checker.proofs.DenominatorLaws.{some_denominator}
 use Rattle.certificate_checker.proofs.PlanMeaning.{direction_yes, direction_no, direction_endless}
 use Rattle.certificate_checker.proofs.VerdictLaws.{verdict-is}
-use Rattle.certificate_checker.proofs.plans.direction_verdict.Goals as goal
+use Rattle.certificate_checker.proofs.plans.check_direction.Goals as goal
 
 pub returns-clause-answer : goal.returns-clause-answer
 returns-clause-answer c =

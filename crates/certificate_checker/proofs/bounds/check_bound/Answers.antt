@@ -13,7 +13,7 @@ use Rattle.certificate_checker.specs.Verdicts.{IsVerdict, IfYes}
 use Rattle.certificate_checker.proofs.CertificateMeaning.{bound_yes, bound_no, bound_bounds}
 use Rattle.certificate_checker.specs.Denominators.{AreOverSome}
 use Rattle.certificate_checker.proofs.DenominatorLaws.{some_denominator}
-use Rattle.certificate_checker.proofs.bounds.bound_verdict.Goals as goal
+use Rattle.certificate_checker.proofs.bounds.check_bound.Goals as goal
 
 pub returns-clause-yes : goal.returns-clause-yes
 returns-clause-yes c s y over =
