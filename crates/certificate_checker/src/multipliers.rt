@@ -27,7 +27,7 @@ use std::alloc::{AllocError, Global};
 use std::cmp::Ordering;
 
 /// What multipliers are checked for.
-#[derive(Clone, Copy, Debug, PartialEq, Eq)]
+#[derive(Clone, Copy, PartialEq, Eq)]
 pub(crate) enum Aim {
     /// That they prove a bound.
     Bound,

@@ -18,7 +18,7 @@ use exact_num::Frac;
 use row_core::{Place, Plan, Row, Var, eval_against};
 
 /// What values are checked as.
-#[derive(Clone, Copy, Debug, PartialEq, Eq)]
+#[derive(Clone, Copy, PartialEq, Eq)]
 pub(crate) enum Subject {
     /// A plan: rows with their right sides.
     Plan,

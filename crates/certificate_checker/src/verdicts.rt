@@ -7,7 +7,7 @@ use exact_num::Frac;
 use row_core::{Place, RowName, Var};
 
 /// Why a check says no: the first condition that fails, with the amount by which it does.
-#[derive(Clone, Copy, Debug, PartialEq, Eq)]
+#[derive(Clone, Copy, PartialEq, Eq)]
 pub enum Rejection {
     /// The row doesn't hold: its sum and its right side differ by so much.
     Violates(RowName, Frac),
@@ -27,7 +27,7 @@ pub enum Rejection {
 }
 
 /// What a check answers.
-#[derive(Clone, Copy, Debug, PartialEq, Eq)]
+#[derive(Clone, Copy, PartialEq, Eq)]
 pub enum Verdict {
     /// All conditions hold: the cost, the bound, the sum or the gap.
     Yes(Frac),
@@ -38,7 +38,7 @@ pub enum Verdict {
 }
 
 /// Why a check stops before its end.
-#[derive(Clone, Copy, Debug, PartialEq, Eq)]
+#[derive(Clone, Copy, PartialEq, Eq)]
 pub(crate) enum Halt {
     No(Rejection),
     Width(Place),

@@ -8,7 +8,7 @@ use row_core::{Multipliers, Place, Plan, Stopped};
 use std::alloc::{AllocError, AllocFailed};
 
 /// What is certified of rows, after so many pivots. The checker has said yes to all that stands here.
-#[derive(Debug, Drop)]
+#[derive(Drop)]
 pub enum Certified {
     /// The plan meets all rows, and no plan costs less than the bound that the multipliers prove.
     Optimal {
@@ -32,7 +32,7 @@ pub enum Certified {
 }
 
 /// Why nothing is certified.
-#[derive(Clone, Copy, Debug, PartialEq, Eq)]
+#[derive(Clone, Copy, PartialEq, Eq)]
 pub enum NoAnswer {
     /// Nothing was found, or the checker doesn't accept what was.
     Nothing,

@@ -10,7 +10,7 @@ use row_core::Var;
 use std::slice::from_ref;
 
 /// Which value of a variable is looked for.
-#[derive(Clone, Copy, Debug, PartialEq, Eq)]
+#[derive(Clone, Copy, PartialEq, Eq)]
 pub enum Goal {
     /// The least.
     Least,
@@ -19,7 +19,7 @@ pub enum Goal {
 }
 
 /// What is to be as little as it can be.
-#[derive(Clone, Copy, Debug, PartialEq, Eq)]
+#[derive(Clone, Copy, PartialEq, Eq)]
 pub enum Cost {
     /// The model's cost: the sum of all TotalDiscountedCost.
     Model,

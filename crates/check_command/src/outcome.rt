@@ -19,7 +19,7 @@ use row_core::{Multipliers, Place, Plan};
 use std::alloc::{AllocError, Global};
 
 /// What a plan's cost is compared with.
-#[derive(Clone, Copy, Debug, PartialEq, Eq)]
+#[derive(Clone, Copy, PartialEq, Eq)]
 pub struct Bound {
     /// No plan costs less.
     pub bound: Frac,
@@ -28,7 +28,7 @@ pub struct Bound {
 }
 
 /// What the checks come to.
-#[derive(Clone, Copy, Debug, PartialEq, Eq)]
+#[derive(Clone, Copy, PartialEq, Eq)]
 pub enum Outcome {
     /// All conditions hold: the plan's cost, and the bound where there are multipliers.
     Accepted(Frac, Option<Bound>),

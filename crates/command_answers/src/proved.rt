@@ -4,7 +4,7 @@ use exact_num::Frac;
 use proof_files::Proof;
 
 /// What the proof of an optimum is worth.
-#[derive(Clone, Copy, Debug, PartialEq, Eq)]
+#[derive(Clone, Copy, PartialEq, Eq)]
 pub struct Worth {
     /// What its plan costs.
     pub cost: Frac,

@@ -67,7 +67,7 @@ pub enum Refusal {
 }
 
 /// Why a file couldn't be read. Files count from 1, in the order of the words.
-#[derive(Clone, Copy, Debug, PartialEq, Eq)]
+#[derive(Clone, Copy, PartialEq, Eq)]
 pub enum ReadStop {
     /// No file has that name, on a shelf that tells its files.
     NoFile(u8),

@@ -12,7 +12,7 @@ use std::alloc::{AllocError, Global};
 
 /// A command with its files and options. `places` is how many decimal places written factors have: 6 or 9. `gap` is in millionths
 /// of the bound, and 10 where it is left out and the method is rounded; `pivots` is the most pivots that may be made.
-#[derive(Debug, Drop)]
+#[derive(Drop)]
 pub enum Command<'a> {
     /// `mps FILE [--places P]`: writes the named equations of a data file.
     Mps {
@@ -135,7 +135,7 @@ pub enum Command<'a> {
 }
 
 /// What `solve` writes.
-#[derive(Clone, Copy, Debug, PartialEq, Eq)]
+#[derive(Clone, Copy, PartialEq, Eq)]
 pub enum SolveShow {
     Report,
     Plan,
@@ -145,21 +145,21 @@ pub enum SolveShow {
 }
 
 /// Which method `solve`, `explain`, `curve` and `span` begin with.
-#[derive(Clone, Copy, Debug, PartialEq, Eq)]
+#[derive(Clone, Copy, PartialEq, Eq)]
 pub enum SolveMethod {
     Exact,
     Rounded,
 }
 
 /// What `compare` writes.
-#[derive(Clone, Copy, Debug, PartialEq, Eq)]
+#[derive(Clone, Copy, PartialEq, Eq)]
 pub enum CompareShow {
     Text,
     Page,
 }
 
 /// What `make` writes.
-#[derive(Clone, Copy, Debug, PartialEq, Eq)]
+#[derive(Clone, Copy, PartialEq, Eq)]
 pub enum MakeShow {
     File,
     Summary,

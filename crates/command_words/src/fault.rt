@@ -1,7 +1,7 @@
 // What may be wrong with the words.
 
 /// What is wrong with the words.
-#[derive(Clone, Copy, Debug, PartialEq, Eq)]
+#[derive(Clone, Copy, PartialEq, Eq)]
 pub enum WordFault {
     /// There is no word.
     NoCommand,

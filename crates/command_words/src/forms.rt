@@ -10,7 +10,7 @@ use crate::values::asks_for_rounded;
 use clap::ArgMatches;
 
 /// The forms by name. Two forms of one word are told apart by what is given.
-#[derive(Clone, Copy, Debug, PartialEq, Eq)]
+#[derive(Clone, Copy, PartialEq, Eq)]
 pub enum FormName {
     Mps,
     Check,

@@ -43,7 +43,7 @@ pub const METHODS: [(&str, SolveMethod); 2] = [
 ];
 
 /// The numbers that options say: a gap and a slack in millionths, the most pivots, and how many decimal places written factors have.
-#[derive(Clone, Copy, Debug)]
+#[derive(Clone, Copy)]
 pub struct Numbers {
     pub gap: u32,
     pub pivots: u32,

@@ -8,7 +8,7 @@ use std::alloc::{AllocError, Global};
 
 /// Which of the two scenarios. The files of the words are numbered from 1: the data file and the proof of the first scenario, and then
 /// those of the second.
-#[derive(Clone, Copy, Debug, PartialEq, Eq)]
+#[derive(Clone, Copy, PartialEq, Eq)]
 pub enum Which {
     First,
     Second,

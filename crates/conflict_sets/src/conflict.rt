@@ -9,7 +9,7 @@ use simplex_core::Stop;
 use std::alloc::{AllocError, AllocFailed};
 
 /// Inequalities that no plan with right signs meets together with all equations, where each of them is needed for that.
-#[derive(Debug, Drop)]
+#[derive(Drop)]
 pub struct Conflict {
     /// The inequalities, in the order of rows, each with its multiplier, which isn't 0. With some multipliers of the equations these
     /// refute them.
@@ -19,7 +19,7 @@ pub struct Conflict {
 }
 
 /// Why no answer is found.
-#[derive(Clone, Copy, Debug, PartialEq, Eq)]
+#[derive(Clone, Copy, PartialEq, Eq)]
 pub enum ExplainFail {
     /// The first trial that stops does so for this reason.
     Stopped(Stop),

@@ -13,7 +13,7 @@ use certified_answers::NoAnswer;
 use std::alloc::AllocError;
 
 /// What follows in a trial of which no guess is accepted.
-#[derive(Clone, Copy, Debug, PartialEq, Eq)]
+#[derive(Clone, Copy, PartialEq, Eq)]
 pub(crate) enum Fallback {
     /// The exact method makes the trial.
     Exact,
@@ -22,7 +22,7 @@ pub(crate) enum Fallback {
 }
 
 /// Why there is no answer.
-#[derive(Clone, Copy, Debug, PartialEq, Eq)]
+#[derive(Clone, Copy, PartialEq, Eq)]
 pub(crate) enum Halt {
     /// In some trial no guess is accepted, and nothing follows.
     Unguessed,

@@ -17,7 +17,7 @@ use simplex_core::{Stop, TrialStop};
 use std::alloc::{AllocError, Global};
 
 /// What is known after some trials.
-#[derive(Debug, Drop)]
+#[derive(Drop)]
 pub(crate) struct Search {
     /// The multipliers of the last refutation. The list is the inequalities with one other than 0.
     pub multipliers: Multipliers,

@@ -19,7 +19,7 @@ const ROUNDS: usize = 6;
 const LEAST: usize = 4;
 
 /// The list, and how many trials were made.
-#[derive(Debug, Drop)]
+#[derive(Drop)]
 pub(crate) struct Shrinking {
     /// The multipliers of the last refutation. The list is the inequalities with one other than 0.
     pub multipliers: Multipliers,

@@ -20,7 +20,7 @@ use variable_elimination::lift_multipliers;
 use written_method::Reduced;
 
 /// What a trial finds. The checker has said yes to it.
-#[derive(Debug, Drop)]
+#[derive(Drop)]
 pub(crate) enum Finding {
     /// A plan that meets all rows of the trial.
     Plan(Plan),

@@ -36,7 +36,7 @@ pub struct Limit {
 }
 
 /// The method, the most pivots of a trial, and how many millionths of a bound the rounded method may leave a cost above it.
-#[derive(Clone, Copy, Debug, PartialEq, Eq)]
+#[derive(Clone, Copy, PartialEq, Eq)]
 pub struct Wanted {
     pub method: SolveMethod,
     pub pivots: u32,

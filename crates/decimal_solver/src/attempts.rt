@@ -23,7 +23,7 @@ use written_method::Reduced;
 
 /// What an attempt gives, after so many pivots. The checker has said yes to it: the plan meets all rows with right signs and costs
 /// `cost`, the multipliers prove that no plan costs less than `bound`, and the two are as near as was asked for.
-#[derive(Debug, Drop)]
+#[derive(Drop)]
 pub struct Found {
     pub plan: Plan,
     pub multipliers: Multipliers,

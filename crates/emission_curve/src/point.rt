@@ -5,7 +5,7 @@ use simplex_core::TrialStop;
 
 /// What is found at a limit on the emissions of the model period, in the unit of the cost, and per unit of the emissions. The checker
 /// has said yes to all of it.
-#[derive(Clone, Copy, Debug, PartialEq, Eq)]
+#[derive(Clone, Copy, PartialEq, Eq)]
 pub enum Point {
     /// Some plan at the limit costs `cost`. At every limit, each plan costs at least `cost` and `slope` times the difference of that
     /// limit from this one.

@@ -26,7 +26,7 @@ use row_core::Stopped;
 use std::alloc::{AllocError, Global};
 
 /// What is wanted of a model: an explanation by this method, with so many pivots at most in each trial.
-#[derive(Clone, Copy, Debug, PartialEq, Eq)]
+#[derive(Clone, Copy, PartialEq, Eq)]
 pub struct Wanted {
     pub pivots: u32,
     pub method: SolveMethod,

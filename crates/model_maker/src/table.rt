@@ -1,7 +1,7 @@
 //! The parameters of a made model.
 
 /// The number that a record has in each year.
-#[derive(Clone, Copy, Debug)]
+#[derive(Clone, Copy)]
 pub(crate) enum Value {
     /// The demand for electricity: 40 in 2020, and 4 more each year.
     Growing,

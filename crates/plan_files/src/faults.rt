@@ -7,7 +7,7 @@ use row_core::Var;
 use std::alloc::AllocError;
 
 /// The first rule that a file breaks. Records count from 1, the header being record 1; blank lines are none.
-#[derive(Clone, Copy, Debug, PartialEq, Eq)]
+#[derive(Clone, Copy, PartialEq, Eq)]
 pub enum PlanFault {
     /// The record hasn't ten fields, or the header isn't the ten names, or isn't there.
     BadRecord(u64),
@@ -22,7 +22,7 @@ pub enum PlanFault {
 }
 
 /// Why a file wasn't read.
-#[derive(Clone, Copy, Debug, PartialEq, Eq)]
+#[derive(Clone, Copy, PartialEq, Eq)]
 pub enum PlanFail {
     /// The file breaks a rule.
     Fault(PlanFault),

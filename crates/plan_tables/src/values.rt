@@ -37,7 +37,7 @@ const SUBSCRIPT_SETS: [u8; 8] = [
 ];
 
 /// What is printed of a kind's values: the kind, the places of its subscripts in the order of its columns, and the form of the numbers.
-#[derive(Clone, Copy, Debug)]
+#[derive(Clone, Copy)]
 pub(crate) struct Columns<'a> {
     pub(crate) kind: u8,
     pub(crate) places: &'a [u8],

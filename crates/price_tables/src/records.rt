@@ -24,7 +24,7 @@ use row_core::{Multipliers, Row, RowName, Var, row_has, row_word};
 use std::alloc::{AllocError, Global};
 
 /// What is shown of the rows: which table, and the form of its numbers.
-#[derive(Clone, Copy, Debug)]
+#[derive(Clone, Copy)]
 pub(crate) struct Shown {
     pub(crate) table: PriceTable,
     pub(crate) form: NumberForm,

@@ -15,7 +15,7 @@ use row_core::kind_numbers::{
 use row_core::{Index, Var, var_has};
 
 /// A table of prices.
-#[derive(Clone, Copy, Debug, PartialEq, Eq)]
+#[derive(Clone, Copy, PartialEq, Eq)]
 pub enum PriceTable {
     /// What limits cost.
     Limits,

@@ -3,7 +3,7 @@
 use row_core::{Multipliers, Plan};
 
 /// What proves an answer.
-#[derive(Debug, Drop)]
+#[derive(Drop)]
 pub enum Proof {
     /// The plan has a value for each variable, and the multipliers prove a bound on what every plan costs.
     Optimum {

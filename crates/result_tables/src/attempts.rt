@@ -1,7 +1,7 @@
 //! Which attempt gave what is told.
 
 /// What guesses begin from.
-#[derive(Clone, Copy, Debug, PartialEq, Eq)]
+#[derive(Clone, Copy, PartialEq, Eq)]
 pub enum Begun {
     /// Nothing: no values are given.
     FromNothing,
@@ -12,7 +12,7 @@ pub enum Begun {
 }
 
 /// The attempt that gave what is told: the exact method, the first; the method on a grid, the second; or guesses, the third.
-#[derive(Clone, Copy, Debug, PartialEq, Eq)]
+#[derive(Clone, Copy, PartialEq, Eq)]
 pub enum FoundBy {
     ByMethod,
     OnGrid,

@@ -16,7 +16,7 @@ use row_core::kind_numbers::TOTAL_DISCOUNTED_COST;
 use std::alloc::Global;
 
 /// What multipliers are to prove.
-#[derive(Clone, Copy, Debug, PartialEq, Eq)]
+#[derive(Clone, Copy, PartialEq, Eq)]
 pub(crate) enum Proving {
     /// A bound of the model's cost.
     Bound,

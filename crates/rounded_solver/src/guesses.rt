@@ -20,7 +20,7 @@ use written_method::Reduced;
 const DIGITS: i32 = 9;
 
 /// What a guess at values comes to. Nothing is proved of it.
-#[derive(Debug, Drop)]
+#[derive(Drop)]
 pub enum Guess {
     /// A value for each column, in order. They should meet all rows.
     Values(Plan),
@@ -31,7 +31,7 @@ pub enum Guess {
 }
 
 /// A guess at a plan of least cost, and at what shows that none costs less. Nothing is proved of it.
-#[derive(Debug, Drop)]
+#[derive(Drop)]
 pub struct GuessedOptimum {
     /// A value for each column, in order.
     pub values: Plan,

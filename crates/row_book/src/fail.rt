@@ -7,7 +7,7 @@ use row_core::Place;
 use std::alloc::{AllocError, AllocFailed};
 
 /// Why the rows of a model aren't made.
-#[derive(Clone, Copy, Debug, PartialEq, Eq)]
+#[derive(Clone, Copy, PartialEq, Eq)]
 pub enum BookFail {
     /// A number that is formed for the row of this place lies outside the range from `-(2^127 - 1)` to
     /// `2^127 - 1`.

@@ -7,7 +7,7 @@ use row_core::kind_numbers::{NEW_CAPACITY, RATE_OF_ACTIVITY, TRADE};
 use row_core::{Row, Sense, Var};
 
 /// The counts of the solver.
-#[derive(Clone, Copy, Debug, PartialEq, Eq)]
+#[derive(Clone, Copy, PartialEq, Eq)]
 pub struct Size {
     /// Its rows: the inequalities.
     pub rows: u64,

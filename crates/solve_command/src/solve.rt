@@ -32,7 +32,7 @@ use row_core::Stopped;
 use std::alloc::{AllocError, Global};
 
 /// What is shown of a solution: a report, its plan, its multipliers, what proves it, one line, or a few lines.
-#[derive(Clone, Copy, Debug, PartialEq, Eq)]
+#[derive(Clone, Copy, PartialEq, Eq)]
 pub enum Shown {
     Report,
     Plan,
@@ -57,7 +57,7 @@ pub fn shown_of(show: SolveShow) -> Shown
 
 /// What is wanted of a model: a cost that is at most so many millionths of the bound above it, found by so many pivots at most,
 /// what is to be shown, the method to begin with, and what the report is to say that guesses began from.
-#[derive(Clone, Copy, Debug, PartialEq, Eq)]
+#[derive(Clone, Copy, PartialEq, Eq)]
 pub struct Wanted {
     pub gap: u32,
     pub pivots: u32,

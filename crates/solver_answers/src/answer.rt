@@ -16,7 +16,7 @@ pub enum Answer {
 }
 
 /// Why a file wasn't read.
-#[derive(Clone, Copy, Debug, PartialEq, Eq)]
+#[derive(Clone, Copy, PartialEq, Eq)]
 pub enum AnswerFail {
     /// The first line that breaks the form of the file, counted from 1; of a CSV file the first such record, the header being
     /// record 1. Where the text ends too early it is the line after the last.

@@ -8,7 +8,7 @@ use crate::coin::is_state;
 use crate::words::{says, split_word};
 
 /// The forms of text that are read line by line.
-#[derive(Clone, Copy, Debug, PartialEq, Eq)]
+#[derive(Clone, Copy, PartialEq, Eq)]
 pub enum Form {
     /// `-solution` of Clp and CBC.
     Coin,

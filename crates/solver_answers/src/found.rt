@@ -1,7 +1,7 @@
 //! What a line or a record tells.
 
 /// What one line or record of a file tells.
-#[derive(Clone, Copy, Debug)]
+#[derive(Clone, Copy)]
 pub enum Found {
     /// A value of the variable at this place, counted from 0.
     Value(usize, f64),

@@ -5,7 +5,7 @@ use command_words::SolveMethod;
 /// What is wanted of a variable: its span, in plans whose cost is at most so many millionths of its absolute value above the least
 /// cost, or above the bound that the rounded method proves; by this method, with so many pivots at most in the search for the least cost, and in each of the two trials after it. The
 /// rounded method may stay so many millionths from what it proves.
-#[derive(Clone, Copy, Debug, PartialEq, Eq)]
+#[derive(Clone, Copy, PartialEq, Eq)]
 pub struct Wanted {
     pub method: SolveMethod,
     pub slack: u32,

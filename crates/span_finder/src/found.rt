@@ -9,7 +9,7 @@ use simplex_core::Stop;
 use std::alloc::{AllocError, AllocFailed};
 
 /// Between which values a variable lies in plans that cost at most a limit.
-#[derive(Debug, Drop)]
+#[derive(Drop)]
 pub struct Span {
     /// The least value.
     pub low: Frac,
@@ -26,7 +26,7 @@ pub struct Span {
 
 /// Between which values a variable lies in plans that cost at most a limit, from a little below the least to a little above the
 /// greatest.
-#[derive(Debug, Drop)]
+#[derive(Drop)]
 pub struct RoundedSpan {
     /// No such plan has less of the variable.
     pub low: Frac,
@@ -39,7 +39,7 @@ pub struct RoundedSpan {
 }
 
 /// Why no answer is found.
-#[derive(Clone, Copy, Debug, PartialEq, Eq)]
+#[derive(Clone, Copy, PartialEq, Eq)]
 pub enum SpanFail {
     /// The first step that stops does so for this reason.
     Stopped(Stop),

@@ -15,7 +15,7 @@ use row_problem::{Problem, carry_multipliers, carry_plan};
 use std::alloc::Global;
 
 /// What a trial finds. The checker has said yes to it.
-#[derive(Debug, Drop)]
+#[derive(Drop)]
 pub(crate) struct RoundedEnd {
     /// No plan of the rows has less of the variable, where the least value is looked for, or more, where the greatest is.
     pub end: Frac,

@@ -7,7 +7,7 @@ use plan_tables::{Table, table_named};
 use price_tables::{PriceTable, price_table_named};
 
 /// What is shown of an optimum.
-#[derive(Clone, Copy, Debug, PartialEq, Eq)]
+#[derive(Clone, Copy, PartialEq, Eq)]
 pub enum Shown {
     /// Values of its plan.
     Values(Table),
