@@ -7,6 +7,7 @@ ghost use Rattle.mathprog_data.specs.Meaning.{Blocks};
 ghost use Rattle.mathprog_data.specs.Verdicts.{FaultAt, Says};
 ghost use Rattle.mathprog_data.specs.declared.blocks.Mark.{Mark};
 ghost use Rattle.model_sets.specs.Data.{Data};
+ghost use Rattle.model_sets.specs.Members.{AreSets};
 ghost use Rattle.mps_meaning.specs.Programs.{Program};
 ghost use Rattle.mps_meaning.specs.Reading.{program_of};
 ghost use Rattle.mps_plans.specs.PlanPrograms.{IsProgramOf};
@@ -35,7 +36,8 @@ ghost use Rattle.command_words.specs.Words.{asked};
 ghost use Rattle.command_words.specs.declared.command.CompareShow.{CompareShow};
 ghost use Rattle.command_words.specs.declared.command.SolveMethod.{SolveMethod};
 ghost use Rattle.data_warnings.specs.Findings.{findings};
-ghost use Rattle.data_warnings.specs.NoPlan.{excludes_plans};
+ghost use Rattle.data_warnings.specs.Lines.{line};
+ghost use Rattle.data_warnings.specs.NoPlan.{EndsIn, excludes_plans, no_plan_ending};
 ghost use Rattle.data_warnings.specs.declared.places.Finding.{Finding};
 ghost use Rattle.solve_command.specs.Promises.{ArePromised};
 ghost use Rattle.table_command.specs.Tables.{DueForTable, form_of};
@@ -199,9 +201,9 @@ pub fn osemosys<S: Shelf, K: Sink>(
         → DueForCompared places gap show bytes proof_bytes bytes2 proof_bytes2 Status.Done text
         → IsPromisedDifference places show bytes bytes2 text }
 
-    // Where one of the lines of `warn` says that no plan exists, none does.
+    // Where one of the lines of `warn` ends in `: no plan`, whatever the names of members are, or is of a rule whose lines do, no plan exists.
     ensures no_plan { (rounded : ℕ) (d : Data) (status : Status) (text : List ℕ) (warned : IsWarned rounded d status text) (f : Finding)
-        → Contains (findings warned.built) f → excludes_plans f.rule ≡ true
+        → Contains (findings warned.built) f → (excludes_plans f.rule ≡ true) ⊎ (AreSets d.sets × EndsIn no_plan_ending (line d.sets f))
         → (places q : ℕ) (x : Var → ℤ) → Feasible places d q x → ⊥ }
 
     // What `solve` writes to prove its end is accepted by `check`, over the same data file and with the same gap and decimal places, whatever its
