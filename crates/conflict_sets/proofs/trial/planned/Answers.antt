@@ -3,7 +3,7 @@ use Rattle.row_problem.proofs.Common.{◌≡◌, map, refl, sym, ap, ◌∙◌, 
 use Rattle.row_problem.proofs.CompletePlans.{plan-complete}
 use Rattle.conflict_sets.specs.Pieces.{listed_by}
 use Rattle.exact_solver.proofs.StepEnds.{of-part}
-use Rattle.conflict_sets.specs.Trials.{planned_end, rows_with}
+use Rattle.conflict_sets.specs.Trials.{rows_with}
 use Rattle.conflict_sets.proofs.CopiedLaws.{copied-conditions, copied-found, copied-plan}
 use Rattle.conflict_sets.proofs.FoundTrials.{trial-plan}
 use Rattle.conflict_sets.proofs.TrialEnds.{stops-by}
@@ -11,17 +11,14 @@ use Rattle.conflict_sets.proofs.trial.planned.Goals as goal
 
 pub returns-in_err-plan-clause-stopped : goal.returns-in_err-plan-clause-stopped
 returns-in_err-plan-clause-stopped c =
-    let problem = c.args.problem.now in
-    let end = planned_end (listed_by c.args.listing.now) problem.rows.now problem.defs.now problem.vars.now c.args.values.now in
     let e = c.in_err-plan.field-0.0 in
     let q = err_from_is_err_and c.from_residual.result c.from_residual.ensures.1 in
-    rw (q.1, q.2) (stops-by _ (stop_of e) end (of-part _ e c.in_err-plan.ensures.stopped) (λ place h. rw (first_wide-append, h) refl))
+    rw (q.1, q.2) (stops-by _ (stop_of e) _ (of-part _ e c.in_err-plan.ensures.stopped) (λ place h. rw (first_wide-append, h) refl))
 
 pub returns-in_err-accepted_plan-clause-stopped : goal.returns-in_err-accepted_plan-clause-stopped
 returns-in_err-accepted_plan-clause-stopped c =
     let problem = c.args.problem.now in
     let rows = problem.rows.now in
-    let defs = problem.defs.now in
     let vars = problem.vars.now in
     let listed = listed_by c.args.listing.now in
     let plan = c.in_ok-plan.plan in
@@ -32,7 +29,7 @@ returns-in_err-accepted_plan-clause-stopped c =
     let found = trial-plan listed problem c.requires.problem c.args.tried.now c.requires.tried values plan c.in_ok-plan.ensures.values c.requires.keyed c.plan_laws.ensures.ascending c.plan_laws.ensures.some c.plan_laws-2.ensures.some c.requires.meet in
     let wide = c.in_err-accepted_plan.ensures.found (copied-found vars plan c.deref.result.now (rows_with listed rows) copied found) in
     rw (q.1, q.2)
-    (stops-by _ e (planned_end listed rows defs vars values) (rw (copied-conditions model_cost vars plan c.deref.result.now (rows_with listed rows) copied) at wide)
+    (stops-by _ e _ (rw (copied-conditions model_cost vars plan c.deref.result.now (rows_with listed rows) copied) at wide)
     (λ place h. rw (first_wide-append, c.in_ok-plan.ensures.fits, sym c.in_ok-plan.ensures.values, h) refl))
 
 pub returns-clause-end : goal.returns-clause-end

@@ -3,7 +3,7 @@ use Rattle.row_problem.proofs.Common.{◌≡◌, length, refl, sym, ap, ◌∙�
 use Rattle.exact_solver.proofs.StepEnds.{of-part}
 use Rattle.row_problem.proofs.OverLaws.{some-over}
 use Rattle.conflict_sets.specs.Pieces.{listed_by}
-use Rattle.conflict_sets.specs.Trials.{refuted_end, tried_multipliers, tried_steps}
+use Rattle.conflict_sets.specs.Trials.{tried_multipliers, tried_steps}
 use Rattle.conflict_sets.proofs.FoundTrials.{lifted-are, steps-are, trial-refutation}
 use Rattle.conflict_sets.proofs.TriedLaws.{as-many, part-tried}
 use Rattle.conflict_sets.proofs.TrialEnds.{stops-by}
@@ -22,9 +22,8 @@ returns-in_err-multipliers-clause-stopped c =
     let listed = listed_by c.args.listing.now in
     let q = err_from_is_err_and c.from_residual.result c.from_residual.ensures.1 in
     let same = steps-are listed problem c.requires.problem c.args.tried.now c.requires.tried c.entries.result.now ∙ ap (tried_steps listed problem.rows.now problem.defs.now) c.entries.ensures in
-    let end = refuted_end listed problem.rows.now problem.defs.now problem.vars.now c.args.lambda.now in
     let e = c.in_err-multipliers.field-0.0 in
-    rw (q.1, q.2) (stops-by _ (stop_of e) end (of-part _ e (rw same at c.in_err-multipliers.ensures.stopped)) (λ place h. rw (first_wide-append, h) refl))
+    rw (q.1, q.2) (stops-by _ (stop_of e) _ (of-part _ e (rw same at c.in_err-multipliers.ensures.stopped)) (λ place h. rw (first_wide-append, h) refl))
 
 pub returns-in_err-accepted_refutation-clause-stopped : goal.returns-in_err-accepted_refutation-clause-stopped
 returns-in_err-accepted_refutation-clause-stopped c =
@@ -44,7 +43,7 @@ returns-in_err-accepted_refutation-clause-stopped c =
     let carries = c.in_ok-multipliers.ensures.refutes refl (part-tried listed problem of reduced tried) in
     let found = trial-refutation listed problem of reduced tried fs m carries c.multiplier_laws.ensures.some (some-over fs) (rw c.entries.ensures c.requires.refute) in
     rw (q.1, q.2)
-    (stops-by _ c.in_err-accepted_refutation.field-0.0 (refuted_end listed rows defs problem.vars.now c.args.lambda.now) (c.in_err-accepted_refutation.ensures.found found)
+    (stops-by _ c.in_err-accepted_refutation.field-0.0 _ (c.in_err-accepted_refutation.ensures.found found)
     (λ place h. rw (first_wide-append, fits, sym (c.in_ok-multipliers.ensures.multipliers ∙ made), h) refl))
 
 pub returns-clause-end : goal.returns-clause-end
