@@ -1,7 +1,6 @@
-use Rattle.std.proofs.Common.{◌≡◌, ◌∙◌, List, [], ℕ, Result, Ok, Err, ap, inl, refl, sym, subst, map}
+use Rattle.std.proofs.Common.{◌≡◌, ◌∙◌, [], Result, Ok, Err, ap, inl, refl, sym, subst, map}
 use Rattle.std.proofs.lemmas.Result.{IfOk-weaker}
 use Rattle.std.specs.String.{string_bytes}
-use Rattle.command_answers.specs.declared.status.Status.{Status}
 use Rattle.command_words.specs.Commands.{request_of, request_of_result}
 use Rattle.command_words.specs.Words.{Request, asked}
 use Rattle.command_words.specs.declared.fault.WordFault.{WordFault}

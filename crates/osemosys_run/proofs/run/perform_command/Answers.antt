@@ -1,4 +1,4 @@
-use Rattle.std.proofs.Common.{◌≡◌, ◌+◌, ◌<◌, ◌∙◌, Bool, List, ℕ, Ok, ap, arith, inl, inr, length, map, refl, subst, sym}
+use Rattle.std.proofs.Common.{◌≡◌, ◌+◌, ◌∙◌, List, ℕ, ap, arith, inl, inr, length, refl, subst, sym}
 use Rattle.std.proofs.lemmas.List.{length-map}
 use Rattle.std.proofs.lemmas.Result.{IfOk-weaker, MatchResult-at_err, MatchResult-at_ok}
 use Rattle.command_answers.specs.declared.status.Status.{Status}
@@ -14,7 +14,7 @@ use Rattle.request_files.specs.declared.whole.ReadEnd.TheVariants.{NoFile, Faile
 use Rattle.request_files.proofs.InTurnLaws.{all-short, as-many, stops-within}
 use Rattle.request_files.proofs.MarkedLaws.{found-as}
 use Rattle.request_answers.specs.Replies.{CanBeTold}
-use Rattle.request_answers.specs.Requests.{IsRead, marks_for}
+use Rattle.request_answers.specs.Requests.{marks_for}
 use Rattle.request_answers.proofs.ReplyLaws.{told_so}
 use Rattle.osemosys_run.specs.Causes.{TellsEnd}
 use Rattle.osemosys_run.proofs.run.perform_command.Goals as goal

@@ -1,4 +1,4 @@
-use Rattle.std.proofs.Common.{◌∷◌, List, ℕ, ℤ, map, subst, sym}
+use Rattle.std.proofs.Common.{◌∷◌, List, ℕ, ℤ, subst}
 use Rattle.std.specs.Prelude.{IfOk}
 use Rattle.curve_command.specs.Curve.{DueForCurve}
 use Rattle.command_words.specs.declared.command.SolveMethod.TheVariants.{Rounded}

@@ -1,7 +1,5 @@
-use Rattle.std.proofs.Common.{◌≡◌, ◌≢◌, ℕ, List, inl, inr, Result, Ok, Err, sym, ◌∙◌, subst}
-use Rattle.std.specs.Prelude.{MatchResult}
+use Rattle.std.proofs.Common.{inr, sym, ◌∙◌, subst}
 use Rattle.std.proofs.lemmas.Result.{IfOk-weaker}
-use Rattle.model_sets.specs.Data.{Data}
 use Rattle.model_sets.specs.Members.{SetLists}
 use Rattle.command_answers.specs.CheckedPlans.{IsListedBook}
 use Rattle.command_answers.specs.MadeBooks.{TellsMade}

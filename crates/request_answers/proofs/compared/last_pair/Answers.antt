@@ -1,4 +1,4 @@
-use Rattle.std.proofs.Common.{◌≡◌, ◌∙◌, ◌∷◌, ◌++◌, [], List, ℕ, ap, map, sym}
+use Rattle.std.proofs.Common.{◌≡◌, ◌∙◌, ◌∷◌, ◌++◌, [], ap, map, sym}
 use Rattle.std.proofs.lemmas.List.{map-append}
 use Rattle.request_answers.proofs.RequestLaws.{same_last}
 use Rattle.request_answers.proofs.compared.last_pair.Goals as goal

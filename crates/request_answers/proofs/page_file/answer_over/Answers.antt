@@ -1,6 +1,5 @@
 use Rattle.std.proofs.Common.{List, inl, inr, sym, ◌∙◌, subst}
 use Rattle.std.proofs.lemmas.Result.{IfOk-weaker}
-use Rattle.model_sets.specs.Data.{Data}
 use Rattle.model_sets.specs.Members.{SetLists}
 use Rattle.row_core.specs.declared.Row.{Row}
 use Rattle.command_answers.specs.CheckedPlans.{IsListedBook}
