@@ -17,11 +17,10 @@ use Rattle.row_core.specs.Values.{alone}
 use Rattle.row_core.proofs.SumLaws.{IsOver-times, IsOver-multiplied}
 use Rattle.named_equations.specs.Instances.{name_at, stands_at, variable_of}
 use Rattle.named_equations.specs.Notation.{sum_over, scale_of}
-use Rattle.named_equations.specs.Parameters.{year_split, specified_annual_demand, specified_demand_profile, trade_route, accumulated_annual_demand, input_activity_ratio, output_activity_ratio}
-use Rattle.named_equations.specs.Positions.{regions, timeslices}
+use Rattle.named_equations.specs.Parameters.{year_split, specified_annual_demand, specified_demand_profile, trade_route, accumulated_annual_demand}
+use Rattle.named_equations.specs.Positions.{regions}
 use Rattle.named_equations.specs.Plans.{says}
-use Rattle.named_equations.specs.Variables.{rate_of_activity, trade, rate_of_demand, rate_of_production_by_technology_by_mode, rate_of_production_by_technology, rate_of_production, rate_of_use_by_technology_by_mode, rate_of_use_by_technology, rate_of_use, production, use_of_fuel, demand, production_annual, use_annual, trade_annual, production_by_technology, use_by_technology, total_annual_technology_activity_by_mode}
-use Rattle.named_equations.specs.Where.{producing_modes, producing_technologies, using_modes, using_technologies}
+use Rattle.named_equations.specs.Variables.{trade, rate_of_demand, production, use_of_fuel, demand, production_annual, use_annual, trade_annual}
 use Rattle.named_equations.proofs.TermMeaning.{MeansStatement, IsNamedEquation, sum_of_others, sum_of_others-defines, scaled_other, scaled_other-defines, weighted_sum, weighted_sum-defines, EachFrom, at_number, alone-self, definition_is, inequality_is, first_positive, defined, sum_over-negated, over-one, over-minus_one, over-zero, over-data, over-negative_data, sum-none, sum-term, sum-each}
 use Rattle.balance_rows.specs.Balance.{eq_specified_demand, eba10, eba11, ebb4}
 use Rattle.balance_rows.specs.Rows.{IsBalanceEquation, terms_at}
@@ -185,110 +184,49 @@ inequality : (places : ℕ) (d : Data) (i : Index) (n : ℕ) → Means places d 
 inequality places d i n m none = inequality_is places d (name_at n i) (terms_at d (name_at n i)) m none
 
 eba1-named : (places : ℕ) (d : Data) (i : Index) → IsNamed places d i EBA1
-eba1-named places d i =
-    let v = rate_of_production_by_technology_by_mode i.region i.slice i.tech i.fuel i.mode i.year in
-    let w = rate_of_activity i.region i.slice i.tech i.mode i.year in
-    let z : ℤ = output_activity_ratio d i.region i.tech i.fuel i.mode i.year in
-    definition places d i EBA1 v (scaled_other v w z) refl (scaled_other-defines v w z refl)
+eba1-named places d i = definition places d i EBA1 _ (scaled_other _ _ _) refl (scaled_other-defines _ _ _ refl)
 
 eba2-named : (places : ℕ) (d : Data) (i : Index) → IsNamed places d i EBA2
-eba2-named places d i =
-    let v = rate_of_production_by_technology i.region i.slice i.tech i.fuel i.year in
-    let is : List ℕ = producing_modes d i.region i.tech i.fuel i.year in
-    let w : ℕ → Var = λ m. rate_of_production_by_technology_by_mode i.region i.slice i.tech i.fuel m i.year in
-    definition places d i EBA2 v (sum_of_others v is w) refl (sum_of_others-defines v is w (λ m. refl))
+eba2-named places d i = definition places d i EBA2 _ (sum_of_others _ _ _) refl (sum_of_others-defines _ _ _ (λ m. refl))
 
 eba3-named : (places : ℕ) (d : Data) (i : Index) → IsNamed places d i EBA3
-eba3-named places d i =
-    let v = rate_of_production i.region i.slice i.fuel i.year in
-    let is : List ℕ = producing_technologies d i.region i.fuel i.year in
-    let w : ℕ → Var = λ t. rate_of_production_by_technology i.region i.slice t i.fuel i.year in
-    definition places d i EBA3 v (sum_of_others v is w) refl (sum_of_others-defines v is w (λ t. refl))
+eba3-named places d i = definition places d i EBA3 _ (sum_of_others _ _ _) refl (sum_of_others-defines _ _ _ (λ t. refl))
 
 eba4-named : (places : ℕ) (d : Data) (i : Index) → IsNamed places d i EBA4
-eba4-named places d i =
-    let v = rate_of_use_by_technology_by_mode i.region i.slice i.tech i.fuel i.mode i.year in
-    let w = rate_of_activity i.region i.slice i.tech i.mode i.year in
-    let z : ℤ = input_activity_ratio d i.region i.tech i.fuel i.mode i.year in
-    definition places d i EBA4 v (scaled_other v w z) refl (scaled_other-defines v w z refl)
+eba4-named places d i = definition places d i EBA4 _ (scaled_other _ _ _) refl (scaled_other-defines _ _ _ refl)
 
 eba5-named : (places : ℕ) (d : Data) (i : Index) → IsNamed places d i EBA5
-eba5-named places d i =
-    let v = rate_of_use_by_technology i.region i.slice i.tech i.fuel i.year in
-    let is : List ℕ = using_modes d i.region i.tech i.fuel i.year in
-    let w : ℕ → Var = λ m. rate_of_use_by_technology_by_mode i.region i.slice i.tech i.fuel m i.year in
-    definition places d i EBA5 v (sum_of_others v is w) refl (sum_of_others-defines v is w (λ m. refl))
+eba5-named places d i = definition places d i EBA5 _ (sum_of_others _ _ _) refl (sum_of_others-defines _ _ _ (λ m. refl))
 
 eba6-named : (places : ℕ) (d : Data) (i : Index) → IsNamed places d i EBA6
-eba6-named places d i =
-    let v = rate_of_use i.region i.slice i.fuel i.year in
-    let is : List ℕ = using_technologies d i.region i.fuel i.year in
-    let w : ℕ → Var = λ t. rate_of_use_by_technology i.region i.slice t i.fuel i.year in
-    definition places d i EBA6 v (sum_of_others v is w) refl (sum_of_others-defines v is w (λ t. refl))
+eba6-named places d i = definition places d i EBA6 _ (sum_of_others _ _ _) refl (sum_of_others-defines _ _ _ (λ t. refl))
 
 eba7-named : (places : ℕ) (d : Data) (i : Index) → IsNamed places d i EBA7
-eba7-named places d i =
-    let v = production i.region i.slice i.fuel i.year in
-    let w = rate_of_production i.region i.slice i.fuel i.year in
-    let z : ℤ = year_split d i.slice i.year in
-    definition places d i EBA7 v (scaled_other v w z) refl (scaled_other-defines v w z refl)
+eba7-named places d i = definition places d i EBA7 _ (scaled_other _ _ _) refl (scaled_other-defines _ _ _ refl)
 
 eba8-named : (places : ℕ) (d : Data) (i : Index) → IsNamed places d i EBA8
-eba8-named places d i =
-    let v = use_of_fuel i.region i.slice i.fuel i.year in
-    let w = rate_of_use i.region i.slice i.fuel i.year in
-    let z : ℤ = year_split d i.slice i.year in
-    definition places d i EBA8 v (scaled_other v w z) refl (scaled_other-defines v w z refl)
+eba8-named places d i = definition places d i EBA8 _ (scaled_other _ _ _) refl (scaled_other-defines _ _ _ refl)
 
 eba9-named : (places : ℕ) (d : Data) (i : Index) → IsNamed places d i EBA9
-eba9-named places d i =
-    let v = demand i.region i.slice i.fuel i.year in
-    let w = rate_of_demand i.region i.slice i.fuel i.year in
-    let z : ℤ = year_split d i.slice i.year in
-    definition places d i EBA9 v (scaled_other v w z) refl (scaled_other-defines v w z refl)
+eba9-named places d i = definition places d i EBA9 _ (scaled_other _ _ _) refl (scaled_other-defines _ _ _ refl)
 
 ebb1-named : (places : ℕ) (d : Data) (i : Index) → IsNamed places d i EBB1
-ebb1-named places d i =
-    let v = production_annual i.region i.fuel i.year in
-    let is : List ℕ = timeslices d in
-    let w : ℕ → Var = λ l. production i.region l i.fuel i.year in
-    definition places d i EBB1 v (sum_of_others v is w) refl (sum_of_others-defines v is w (λ l. refl))
+ebb1-named places d i = definition places d i EBB1 _ (sum_of_others _ _ _) refl (sum_of_others-defines _ _ _ (λ l. refl))
 
 ebb2-named : (places : ℕ) (d : Data) (i : Index) → IsNamed places d i EBB2
-ebb2-named places d i =
-    let v = use_annual i.region i.fuel i.year in
-    let is : List ℕ = timeslices d in
-    let w : ℕ → Var = λ l. use_of_fuel i.region l i.fuel i.year in
-    definition places d i EBB2 v (sum_of_others v is w) refl (sum_of_others-defines v is w (λ l. refl))
+ebb2-named places d i = definition places d i EBB2 _ (sum_of_others _ _ _) refl (sum_of_others-defines _ _ _ (λ l. refl))
 
 ebb3-named : (places : ℕ) (d : Data) (i : Index) → IsNamed places d i EBB3
-ebb3-named places d i =
-    let v = trade_annual i.region i.other i.fuel i.year in
-    let is : List ℕ = timeslices d in
-    let w : ℕ → Var = λ l. trade i.region i.other l i.fuel i.year in
-    definition places d i EBB3 v (sum_of_others v is w) refl (sum_of_others-defines v is w (λ l. refl))
+ebb3-named places d i = definition places d i EBB3 _ (sum_of_others _ _ _) refl (sum_of_others-defines _ _ _ (λ l. refl))
 
 acc1-named : (places : ℕ) (d : Data) (i : Index) → IsNamed places d i ACC1
-acc1-named places d i =
-    let v = production_by_technology i.region i.slice i.tech i.fuel i.year in
-    let w = rate_of_production_by_technology i.region i.slice i.tech i.fuel i.year in
-    let z : ℤ = year_split d i.slice i.year in
-    definition places d i ACC1 v (scaled_other v w z) refl (scaled_other-defines v w z refl)
+acc1-named places d i = definition places d i ACC1 _ (scaled_other _ _ _) refl (scaled_other-defines _ _ _ refl)
 
 acc2-named : (places : ℕ) (d : Data) (i : Index) → IsNamed places d i ACC2
-acc2-named places d i =
-    let v = use_by_technology i.region i.slice i.tech i.fuel i.year in
-    let w = rate_of_use_by_technology i.region i.slice i.tech i.fuel i.year in
-    let z : ℤ = year_split d i.slice i.year in
-    definition places d i ACC2 v (scaled_other v w z) refl (scaled_other-defines v w z refl)
+acc2-named places d i = definition places d i ACC2 _ (scaled_other _ _ _) refl (scaled_other-defines _ _ _ refl)
 
 acc3-named : (places : ℕ) (d : Data) (i : Index) → IsNamed places d i ACC3
-acc3-named places d i =
-    let v = total_annual_technology_activity_by_mode i.region i.tech i.mode i.year in
-    let is : List ℕ = timeslices d in
-    let w : ℕ → Var = λ l. rate_of_activity i.region l i.tech i.mode i.year in
-    let z : ℕ → ℤ = λ l. year_split d l i.year in
-    definition places d i ACC3 v (weighted_sum v is w z) refl (weighted_sum-defines v is w z (λ l. refl))
+acc3-named places d i = definition places d i ACC3 _ (weighted_sum _ _ _ _) refl (weighted_sum-defines _ _ _ _ (λ l. refl))
 
 demand-named : (places : ℕ) (d : Data) (i : Index) → pos 0 <ℤ year_split d i.slice i.year → IsNamed places d i EQ_SPECIFIED_DEMAND
 demand-named places d i p = definition places d i EQ_SPECIFIED_DEMAND (rate_of_demand i.region i.slice i.fuel i.year) (demand-means places d i) refl (demand-defines places d i p)

@@ -11,13 +11,14 @@ ghost use Rattle.balance_rows.specs.Balance.{acc1, acc2, acc3};
 
 use equation_parts::parameters::year_split;
 use equation_parts::shapes::is_times;
-use equation_parts::variables::{
-    production_by_technology, rate_of_activity, rate_of_production_by_technology,
-    rate_of_use_by_technology, total_annual_technology_activity_by_mode, use_by_technology,
-};
+use equation_parts::{index, variable};
 use model_sets::set_numbers::TIMESLICE;
 use param_tables::ModelData;
-use row_core::{Index, LeftSide, Row, RowName, Sense, Stopped, negative, one, zero};
+use row_core::kind_numbers::{
+    PRODUCTION_BY_TECHNOLOGY, RATE_OF_ACTIVITY, RATE_OF_PRODUCTION_BY_TECHNOLOGY,
+    RATE_OF_USE_BY_TECHNOLOGY, TOTAL_ANNUAL_TECHNOLOGY_ACTIVITY_BY_MODE, USE_BY_TECHNOLOGY,
+};
+use row_core::{Index, LeftSide, Row, RowName, Sense, Stopped, Var, negative, one, zero};
 use std::alloc::Global;
 
 /// Acc1: the production of a technology is its rate times the part of the year.
@@ -26,19 +27,12 @@ pub(crate) fn acc1(alloc: Global, model: &ModelData, name: RowName) -> Result<Ro
     requires year { IsYear model.now.facts name.index.year }
     ensures { IsWritten name (by_rltfy (acc1 model.now.facts) name.index) result }
 {
-    let Index {
-        region: r,
-        slice: l,
-        tech: t,
-        fuel: f,
-        year: y,
-        ..
-    } = name.index;
+    let index!(region r, slice l, tech t, fuel f, year y) = name.index;
     is_times(
         alloc,
         name,
-        production_by_technology(r, l, t, f, y),
-        rate_of_production_by_technology(r, l, t, f, y),
+        variable!(PRODUCTION_BY_TECHNOLOGY; region r, slice l, tech t, fuel f, year y),
+        variable!(RATE_OF_PRODUCTION_BY_TECHNOLOGY; region r, slice l, tech t, fuel f, year y),
         year_split(model, l, y),
     )
 }
@@ -49,19 +43,12 @@ pub(crate) fn acc2(alloc: Global, model: &ModelData, name: RowName) -> Result<Ro
     requires year { IsYear model.now.facts name.index.year }
     ensures { IsWritten name (by_rltfy (acc2 model.now.facts) name.index) result }
 {
-    let Index {
-        region: r,
-        slice: l,
-        tech: t,
-        fuel: f,
-        year: y,
-        ..
-    } = name.index;
+    let index!(region r, slice l, tech t, fuel f, year y) = name.index;
     is_times(
         alloc,
         name,
-        use_by_technology(r, l, t, f, y),
-        rate_of_use_by_technology(r, l, t, f, y),
+        variable!(USE_BY_TECHNOLOGY; region r, slice l, tech t, fuel f, year y),
+        variable!(RATE_OF_USE_BY_TECHNOLOGY; region r, slice l, tech t, fuel f, year y),
         year_split(model, l, y),
     )
 }
@@ -71,15 +58,10 @@ pub(crate) fn acc3(alloc: Global, model: &ModelData, name: RowName) -> Result<Ro
     requires year { IsYear model.now.facts name.index.year }
     ensures { IsWritten name (by_rtmy (acc3 model.now.facts) name.index) result }
 {
-    let Index {
-        region: r,
-        tech: t,
-        mode: m,
-        year: y,
-        ..
-    } = name.index;
+    let index!(region r, tech t, mode m, year y) = name.index;
     let mut left = LeftSide::new(alloc, name);
-    left.add(total_annual_technology_activity_by_mode(r, t, m, y), one())?;
+    let own = variable!(TOTAL_ANNUAL_TECHNOLOGY_ACTIVITY_BY_MODE; region r, tech t, mode m, year y);
+    left.add(own, one())?;
     left.add_each(
         model.sets().count(TIMESLICE),
         |l|
@@ -88,7 +70,7 @@ pub(crate) fn acc3(alloc: Global, model: &ModelData, name: RowName) -> Result<Ro
             ensures { IsTerm (rate_of_activity r l t m y, Negative (Billionths (year_split model.entry.now.facts l y))) result }
         {
             (
-                rate_of_activity(r, l, t, m, y),
+                variable!(RATE_OF_ACTIVITY; region r, slice l, tech t, mode m, year y),
                 negative(year_split(model, l, y)),
             )
         },

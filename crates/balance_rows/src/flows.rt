@@ -6,14 +6,16 @@ ghost use Rattle.row_core.specs.Calculated.{known, number_of};
 ghost use Rattle.named_equations.specs.Within.{IsRegion, IsTechnology, IsFuel, IsMode, IsYear};
 ghost use Rattle.balance_rows.specs.Flows.{rate_in_mode, rate_of_all, rate_of_technology, ratio_of, value_of_ratio};
 
-use equation_parts::parameters::{input_activity_ratio, output_activity_ratio};
-use equation_parts::variables::{
-    rate_of_production, rate_of_production_by_technology, rate_of_production_by_technology_by_mode,
-    rate_of_use, rate_of_use_by_technology, rate_of_use_by_technology_by_mode,
-};
+use equation_parts::parameters::value;
+use equation_parts::variable;
 use exact_num::Frac;
+use model_sets::param_numbers::{INPUT_ACTIVITY_RATIO, OUTPUT_ACTIVITY_RATIO};
 use param_tables::{ActivityRatio, ModelData};
-use row_core::Var;
+use row_core::kind_numbers::{
+    RATE_OF_PRODUCTION, RATE_OF_PRODUCTION_BY_TECHNOLOGY, RATE_OF_PRODUCTION_BY_TECHNOLOGY_BY_MODE,
+    RATE_OF_USE, RATE_OF_USE_BY_TECHNOLOGY, RATE_OF_USE_BY_TECHNOLOGY_BY_MODE,
+};
+use row_core::{Index, Var};
 
 /// What a technology does with a fuel.
 #[derive(Clone, Copy)]
@@ -53,8 +55,8 @@ impl Flow {
         ensures { known result ≡ number_of (Billionths (value_of_ratio self model.now.facts r t f m y)) }
     {
         match self {
-            Flow::Made => output_activity_ratio(model, r, t, f, m, y),
-            Flow::Taken => input_activity_ratio(model, r, t, f, m, y),
+            Flow::Made => value(model, OUTPUT_ACTIVITY_RATIO, &[r, t, f, m, y]),
+            Flow::Taken => value(model, INPUT_ACTIVITY_RATIO, &[r, t, f, m, y]),
         }
     }
 
@@ -63,8 +65,10 @@ impl Flow {
         ensures { result ≡ rate_in_mode self r l t f m y }
     {
         match self {
-            Flow::Made => rate_of_production_by_technology_by_mode(r, l, t, f, m, y),
-            Flow::Taken => rate_of_use_by_technology_by_mode(r, l, t, f, m, y),
+            Flow::Made =>
+                variable!(RATE_OF_PRODUCTION_BY_TECHNOLOGY_BY_MODE; region r, slice l, tech t, fuel f, mode m, year y),
+            Flow::Taken =>
+                variable!(RATE_OF_USE_BY_TECHNOLOGY_BY_MODE; region r, slice l, tech t, fuel f, mode m, year y),
         }
     }
 
@@ -73,8 +77,10 @@ impl Flow {
         ensures { result ≡ rate_of_technology self r l t f y }
     {
         match self {
-            Flow::Made => rate_of_production_by_technology(r, l, t, f, y),
-            Flow::Taken => rate_of_use_by_technology(r, l, t, f, y),
+            Flow::Made =>
+                variable!(RATE_OF_PRODUCTION_BY_TECHNOLOGY; region r, slice l, tech t, fuel f, year y),
+            Flow::Taken =>
+                variable!(RATE_OF_USE_BY_TECHNOLOGY; region r, slice l, tech t, fuel f, year y),
         }
     }
 
@@ -83,8 +89,8 @@ impl Flow {
         ensures { result ≡ rate_of_all self r l f y }
     {
         match self {
-            Flow::Made => rate_of_production(r, l, f, y),
-            Flow::Taken => rate_of_use(r, l, f, y),
+            Flow::Made => variable!(RATE_OF_PRODUCTION; region r, slice l, fuel f, year y),
+            Flow::Taken => variable!(RATE_OF_USE; region r, slice l, fuel f, year y),
         }
     }
 }

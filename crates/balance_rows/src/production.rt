@@ -7,9 +7,10 @@ ghost use Rattle.balance_rows.specs.Balance.{all_flow, mode_flow, technology_flo
 
 use crate::flows::Flow;
 use equation_parts::shapes::{is_times, take_away_each};
-use equation_parts::variables::rate_of_activity;
+use equation_parts::{index, variable};
 use param_tables::ModelData;
-use row_core::{Index, LeftSide, Row, RowName, Sense, Stopped, one, zero};
+use row_core::kind_numbers::RATE_OF_ACTIVITY;
+use row_core::{Index, LeftSide, Row, RowName, Sense, Stopped, Var, one, zero};
 use std::alloc::Global;
 
 /// EBa1 and EBa4: the rate in a mode is the rate of activity times the ratio.
@@ -26,20 +27,12 @@ pub(crate) fn mode_flow(
     requires year { IsYear model.now.facts name.index.year }
     ensures { IsWritten name (by_rltfmy (mode_flow flow model.now.facts) name.index) result }
 {
-    let Index {
-        region: r,
-        slice: l,
-        tech: t,
-        fuel: f,
-        mode: m,
-        year: y,
-        ..
-    } = name.index;
+    let index!(region r, slice l, tech t, fuel f, mode m, year y) = name.index;
     is_times(
         alloc,
         name,
         flow.rate_in_mode(r, l, t, f, m, y),
-        rate_of_activity(r, l, t, m, y),
+        variable!(RATE_OF_ACTIVITY; region r, slice l, tech t, mode m, year y),
         flow.value(model, r, t, f, m, y),
     )
 }
@@ -57,14 +50,7 @@ pub(crate) fn technology_flow(
     requires year { IsYear model.now.facts name.index.year }
     ensures { IsWritten name (by_rltfy (technology_flow flow model.now.facts) name.index) result }
 {
-    let Index {
-        region: r,
-        slice: l,
-        tech: t,
-        fuel: f,
-        year: y,
-        ..
-    } = name.index;
+    let index!(region r, slice l, tech t, fuel f, year y) = name.index;
     let mut left = LeftSide::new(alloc, name);
     left.add(flow.rate_of_technology(r, l, t, f, y), one())?;
     let modes = model.nonzero_modes(alloc, flow.ratio(), r, t, f, y)?;
@@ -84,13 +70,7 @@ pub(crate) fn all_flow(
     requires year { IsYear model.now.facts name.index.year }
     ensures { IsWritten name (by_rlfy (all_flow flow model.now.facts) name.index) result }
 {
-    let Index {
-        region: r,
-        slice: l,
-        fuel: f,
-        year: y,
-        ..
-    } = name.index;
+    let index!(region r, slice l, fuel f, year y) = name.index;
     let mut left = LeftSide::new(alloc, name);
     left.add(flow.rate_of_all(r, l, f, y), one())?;
     let technologies = model.nonzero_technologies(alloc, flow.ratio(), r, f, y)?;

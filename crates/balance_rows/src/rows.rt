@@ -17,6 +17,7 @@ use crate::flows::Flow::{Made, Taken};
 use crate::production::{all_flow, mode_flow, technology_flow};
 use crate::timeslices::{eba7, eba8, eba9, eba10, eba11};
 use crate::years::{ebb1, ebb2, ebb3, ebb4};
+use equation_parts::index;
 use equation_parts::instances::row_where;
 use equation_parts::ratios::{produces, produces_in_mode, uses, uses_in_mode};
 use param_tables::ModelData;
@@ -55,14 +56,7 @@ fn stands(model: &ModelData, eq: u8, at: Index) -> bool
     requires index { is_index model.now.facts (subscripts_of eq) at ≡ true }
     ensures { result ≡ stands_at model.now.facts eq at }
 {
-    let Index {
-        region: r,
-        tech: t,
-        fuel: f,
-        mode: m,
-        year: y,
-        ..
-    } = at;
+    let index!(region r, tech t, fuel f, mode m, year y) = at;
     match eq {
         EBA1 => produces_in_mode(model, r, t, f, m, y),
         EBA2 => produces(model, r, t, f, y),

@@ -9,14 +9,18 @@ ghost use Rattle.named_equations.specs.Indices.{by_rlfy, by_rrrlfy};
 ghost use Rattle.named_equations.specs.Within.{IsRegion, IsSlice, IsFuel, IsYear};
 ghost use Rattle.balance_rows.specs.Balance.{eba7, eba8, eba9, eba10, eba11};
 
-use equation_parts::parameters::{trade_route, year_split};
+use equation_parts::parameters::{value, year_split};
 use equation_parts::shapes::is_times;
-use equation_parts::variables::{
-    demand, production, rate_of_demand, rate_of_production, rate_of_use, trade, use_of_fuel,
-};
+use equation_parts::{index, variable};
+use model_sets::param_numbers::TRADE_ROUTE;
 use model_sets::set_numbers::REGION;
 use param_tables::ModelData;
-use row_core::{Index, LeftSide, Row, RowName, Sense, Stopped, minus_one, negative, one, zero};
+use row_core::kind_numbers::{
+    DEMAND, PRODUCTION, RATE_OF_DEMAND, RATE_OF_PRODUCTION, RATE_OF_USE, TRADE, USE,
+};
+use row_core::{
+    Index, LeftSide, Row, RowName, Sense, Stopped, Var, minus_one, negative, one, zero,
+};
 use std::alloc::Global;
 
 /// EBa7: production is its rate times the part of the year.
@@ -25,18 +29,12 @@ pub(crate) fn eba7(alloc: Global, model: &ModelData, name: RowName) -> Result<Ro
     requires year { IsYear model.now.facts name.index.year }
     ensures { IsWritten name (by_rlfy (eba7 model.now.facts) name.index) result }
 {
-    let Index {
-        region: r,
-        slice: l,
-        fuel: f,
-        year: y,
-        ..
-    } = name.index;
+    let index!(region r, slice l, fuel f, year y) = name.index;
     is_times(
         alloc,
         name,
-        production(r, l, f, y),
-        rate_of_production(r, l, f, y),
+        variable!(PRODUCTION; region r, slice l, fuel f, year y),
+        variable!(RATE_OF_PRODUCTION; region r, slice l, fuel f, year y),
         year_split(model, l, y),
     )
 }
@@ -47,18 +45,12 @@ pub(crate) fn eba8(alloc: Global, model: &ModelData, name: RowName) -> Result<Ro
     requires year { IsYear model.now.facts name.index.year }
     ensures { IsWritten name (by_rlfy (eba8 model.now.facts) name.index) result }
 {
-    let Index {
-        region: r,
-        slice: l,
-        fuel: f,
-        year: y,
-        ..
-    } = name.index;
+    let index!(region r, slice l, fuel f, year y) = name.index;
     is_times(
         alloc,
         name,
-        use_of_fuel(r, l, f, y),
-        rate_of_use(r, l, f, y),
+        variable!(USE; region r, slice l, fuel f, year y),
+        variable!(RATE_OF_USE; region r, slice l, fuel f, year y),
         year_split(model, l, y),
     )
 }
@@ -69,18 +61,12 @@ pub(crate) fn eba9(alloc: Global, model: &ModelData, name: RowName) -> Result<Ro
     requires year { IsYear model.now.facts name.index.year }
     ensures { IsWritten name (by_rlfy (eba9 model.now.facts) name.index) result }
 {
-    let Index {
-        region: r,
-        slice: l,
-        fuel: f,
-        year: y,
-        ..
-    } = name.index;
+    let index!(region r, slice l, fuel f, year y) = name.index;
     is_times(
         alloc,
         name,
-        demand(r, l, f, y),
-        rate_of_demand(r, l, f, y),
+        variable!(DEMAND; region r, slice l, fuel f, year y),
+        variable!(RATE_OF_DEMAND; region r, slice l, fuel f, year y),
         year_split(model, l, y),
     )
 }
@@ -89,17 +75,12 @@ pub(crate) fn eba9(alloc: Global, model: &ModelData, name: RowName) -> Result<Ro
 pub(crate) fn eba10(alloc: Global, _model: &ModelData, name: RowName) -> Result<Row, Stopped>
     ensures { IsWritten name (by_rrrlfy (eba10 _model.now.facts) name.index) result }
 {
-    let Index {
-        region: r,
-        other: rr,
-        slice: l,
-        fuel: f,
-        year: y,
-        ..
-    } = name.index;
+    let index!(region r, other rr, slice l, fuel f, year y) = name.index;
     let mut left = LeftSide::new(alloc, name);
-    left.add(trade(r, rr, l, f, y), one())?;
-    left.add(trade(rr, r, l, f, y), one())?;
+    let there = variable!(TRADE; region r, other rr, slice l, fuel f, year y);
+    left.add(there, one())?;
+    let back = variable!(TRADE; region rr, other r, slice l, fuel f, year y);
+    left.add(back, one())?;
     left.write(alloc, Sense::Equal, zero())
 }
 
@@ -110,17 +91,14 @@ pub(crate) fn eba11(alloc: Global, model: &ModelData, name: RowName) -> Result<R
     requires year { IsYear model.now.facts name.index.year }
     ensures { IsWritten name (by_rlfy (eba11 model.now.facts) name.index) result }
 {
-    let Index {
-        region: r,
-        slice: l,
-        fuel: f,
-        year: y,
-        ..
-    } = name.index;
+    let index!(region r, slice l, fuel f, year y) = name.index;
     let mut left = LeftSide::new(alloc, name);
-    left.add(production(r, l, f, y), one())?;
-    left.add(demand(r, l, f, y), minus_one())?;
-    left.add(use_of_fuel(r, l, f, y), minus_one())?;
+    let production = variable!(PRODUCTION; region r, slice l, fuel f, year y);
+    left.add(production, one())?;
+    let demand = variable!(DEMAND; region r, slice l, fuel f, year y);
+    left.add(demand, minus_one())?;
+    let used = variable!(USE; region r, slice l, fuel f, year y);
+    left.add(used, minus_one())?;
     left.add_each(
         model.sets().count(REGION),
         |rr|
@@ -131,8 +109,8 @@ pub(crate) fn eba11(alloc: Global, model: &ModelData, name: RowName) -> Result<R
             ensures { IsTerm (trade r rr l f y, Negative (Billionths (trade_route model.entry.now.facts r rr f y))) result }
         {
             (
-                trade(r, rr, l, f, y),
-                negative(trade_route(model, r, rr, f, y)),
+                variable!(TRADE; region r, other rr, slice l, fuel f, year y),
+                negative(value(model, TRADE_ROUTE, &[r, rr, f, y])),
             )
         },
     )?;

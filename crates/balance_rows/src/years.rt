@@ -9,30 +9,31 @@ ghost use Rattle.named_equations.specs.Indices.{by_rfy, by_rrrfy};
 ghost use Rattle.named_equations.specs.Within.{IsRegion, IsFuel, IsYear};
 ghost use Rattle.balance_rows.specs.Balance.{ebb1, ebb2, ebb3, ebb4};
 
-use equation_parts::parameters::{accumulated_annual_demand, trade_route};
-use equation_parts::variables::{
-    production, production_annual, trade, trade_annual, use_annual, use_of_fuel,
-};
+use equation_parts::parameters::value;
+use equation_parts::{index, variable};
+use model_sets::param_numbers::{ACCUMULATED_ANNUAL_DEMAND, TRADE_ROUTE};
 use model_sets::set_numbers::{REGION, TIMESLICE};
 use param_tables::ModelData;
-use row_core::{Index, LeftSide, Row, RowName, Sense, Stopped, minus_one, negative, one, zero};
+use row_core::kind_numbers::{PRODUCTION, PRODUCTION_ANNUAL, TRADE, TRADE_ANNUAL, USE, USE_ANNUAL};
+use row_core::{
+    Index, LeftSide, Row, RowName, Sense, Stopped, Var, minus_one, negative, one, zero,
+};
 use std::alloc::Global;
 
 /// EBb1: the annual production is that of the timeslices.
 pub(crate) fn ebb1(alloc: Global, model: &ModelData, name: RowName) -> Result<Row, Stopped>
     ensures { IsWritten name (by_rfy (ebb1 model.now.facts) name.index) result }
 {
-    let Index {
-        region: r,
-        fuel: f,
-        year: y,
-        ..
-    } = name.index;
+    let index!(region r, fuel f, year y) = name.index;
     let mut left = LeftSide::new(alloc, name);
-    left.add(production_annual(r, f, y), one())?;
+    let production = variable!(PRODUCTION_ANNUAL; region r, fuel f, year y);
+    left.add(production, one())?;
     left.add_each(
         model.sets().count(TIMESLICE),
-        |l| (production(r, l, f, y), minus_one()),
+        |l| (
+            variable!(PRODUCTION; region r, slice l, fuel f, year y),
+            minus_one(),
+        ),
     )?;
     left.write(alloc, Sense::Equal, zero())
 }
@@ -41,17 +42,15 @@ pub(crate) fn ebb1(alloc: Global, model: &ModelData, name: RowName) -> Result<Ro
 pub(crate) fn ebb2(alloc: Global, model: &ModelData, name: RowName) -> Result<Row, Stopped>
     ensures { IsWritten name (by_rfy (ebb2 model.now.facts) name.index) result }
 {
-    let Index {
-        region: r,
-        fuel: f,
-        year: y,
-        ..
-    } = name.index;
+    let index!(region r, fuel f, year y) = name.index;
     let mut left = LeftSide::new(alloc, name);
-    left.add(use_annual(r, f, y), one())?;
+    left.add(variable!(USE_ANNUAL; region r, fuel f, year y), one())?;
     left.add_each(
         model.sets().count(TIMESLICE),
-        |l| (use_of_fuel(r, l, f, y), minus_one()),
+        |l| (
+            variable!(USE; region r, slice l, fuel f, year y),
+            minus_one(),
+        ),
     )?;
     left.write(alloc, Sense::Equal, zero())
 }
@@ -60,18 +59,16 @@ pub(crate) fn ebb2(alloc: Global, model: &ModelData, name: RowName) -> Result<Ro
 pub(crate) fn ebb3(alloc: Global, model: &ModelData, name: RowName) -> Result<Row, Stopped>
     ensures { IsWritten name (by_rrrfy (ebb3 model.now.facts) name.index) result }
 {
-    let Index {
-        region: r,
-        other: rr,
-        fuel: f,
-        year: y,
-        ..
-    } = name.index;
+    let index!(region r, other rr, fuel f, year y) = name.index;
     let mut left = LeftSide::new(alloc, name);
-    left.add(trade_annual(r, rr, f, y), one())?;
+    let own = variable!(TRADE_ANNUAL; region r, other rr, fuel f, year y);
+    left.add(own, one())?;
     left.add_each(
         model.sets().count(TIMESLICE),
-        |l| (trade(r, rr, l, f, y), minus_one()),
+        |l| (
+            variable!(TRADE; region r, other rr, slice l, fuel f, year y),
+            minus_one(),
+        ),
     )?;
     left.write(alloc, Sense::Equal, zero())
 }
@@ -83,15 +80,11 @@ pub(crate) fn ebb4(alloc: Global, model: &ModelData, name: RowName) -> Result<Ro
     requires year { IsYear model.now.facts name.index.year }
     ensures { IsWritten name (by_rfy (ebb4 model.now.facts) name.index) result }
 {
-    let Index {
-        region: r,
-        fuel: f,
-        year: y,
-        ..
-    } = name.index;
+    let index!(region r, fuel f, year y) = name.index;
     let mut left = LeftSide::new(alloc, name);
-    left.add(production_annual(r, f, y), one())?;
-    left.add(use_annual(r, f, y), minus_one())?;
+    let production = variable!(PRODUCTION_ANNUAL; region r, fuel f, year y);
+    left.add(production, one())?;
+    left.add(variable!(USE_ANNUAL; region r, fuel f, year y), minus_one())?;
     left.add_each(
         model.sets().count(REGION),
         |rr|
@@ -102,14 +95,14 @@ pub(crate) fn ebb4(alloc: Global, model: &ModelData, name: RowName) -> Result<Ro
             ensures { IsTerm (trade_annual r rr f y, Negative (Billionths (trade_route model.entry.now.facts r rr f y))) result }
         {
             (
-                trade_annual(r, rr, f, y),
-                negative(trade_route(model, r, rr, f, y)),
+                variable!(TRADE_ANNUAL; region r, other rr, fuel f, year y),
+                negative(value(model, TRADE_ROUTE, &[r, rr, f, y])),
             )
         },
     )?;
     left.write(
         alloc,
         Sense::Least,
-        accumulated_annual_demand(model, r, f, y),
+        value(model, ACCUMULATED_ANNUAL_DEMAND, &[r, f, y]),
     )
 }

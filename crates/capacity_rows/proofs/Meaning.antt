@@ -1,5 +1,5 @@
 -- The terms of each equation of capacity adequacy mean it.
-use Rattle.std.proofs.Common.{◌≡◌, true, ℕ, ℤ, pos, neg_ℤ, ◌+ℤ◌, ◌*ℤ◌, List, ◌∷◌, [], Some, None, refl, sym, ap, ap₂, ◌∙◌, arith}
+use Rattle.std.proofs.Common.{◌≡◌, true, ℕ, ℤ, pos, neg_ℤ, ◌+ℤ◌, ◌*ℤ◌, ◌∷◌, [], Some, None, refl, sym, ap, ap₂, ◌∙◌, arith}
 use Rattle.std.specs.Prelude.{◌<ℤ◌}
 use Rattle.std.proofs.lemmas.Int.{ints}
 use Rattle.exact_num.proofs.Ring.{products, *ℤ_comm, zero-*ℤ, neg_ℤ-*ℤ}
@@ -12,13 +12,12 @@ use Rattle.row_core.specs.Amounts.{Amount, Whole, Billionths, Product, Negative,
 use Rattle.row_core.specs.EquationTerms.{less, each}
 use Rattle.row_core.specs.Values.{IsOver, alone}
 use Rattle.row_core.proofs.SumLaws.{IsOver-times, IsOver-negated, IsOver-multiplied}
-use Rattle.named_equations.specs.Capacity.{years_counting}
 use Rattle.named_equations.specs.Instances.{name_at, stands_at, variable_of}
 use Rattle.named_equations.specs.Notation.{sum_over, scale_of}
 use Rattle.named_equations.specs.Parameters.{year_split, capacity_to_activity_unit, capacity_factor, availability_factor, residual_capacity}
 use Rattle.named_equations.specs.Positions.{modes, timeslices}
 use Rattle.named_equations.specs.Plans.{says}
-use Rattle.named_equations.specs.Variables.{accumulated_new_capacity, new_capacity, total_capacity_annual, rate_of_total_activity, rate_of_activity}
+use Rattle.named_equations.specs.Variables.{accumulated_new_capacity, total_capacity_annual, rate_of_total_activity}
 use Rattle.named_equations.proofs.TermMeaning.{MeansStatement, IsNamedEquation, sum_of_others, sum_of_others-defines, EachFrom, at_number, alone-self, definition_is, inequality_is, first_positive, sum_over-same, sum_over-times, over-one, over-minus_one, over-zero, over-data, total_over-IsOver, sum-none, sum-term, sum-each}
 use Rattle.capacity_rows.specs.Rows.{IsCapacityEquation, terms_at}
 use Rattle.capacity_rows.specs.Capacity.{caa2, caa4, cab1, slices_capacity, year_capacity}
@@ -142,17 +141,10 @@ inequality : (places : ℕ) (d : Data) (i : Index) (n : ℕ) → Means places d 
 inequality places d i n m none = inequality_is places d (name_at n i) (terms_at d (name_at n i)) m none
 
 caa1-named : (places : ℕ) (d : Data) (i : Index) → IsNamed places d i CAA1
-caa1-named places d i =
-    let v = accumulated_new_capacity i.region i.tech i.year in
-    let is : List ℕ = years_counting d i.region i.tech i.year in
-    let w : ℕ → Var = λ yy. new_capacity i.region i.tech yy in
-    definition places d i CAA1 v (sum_of_others v is w) refl (sum_of_others-defines v is w (λ yy. refl))
+caa1-named places d i = definition places d i CAA1 _ (sum_of_others _ _ _) refl (sum_of_others-defines _ _ _ (λ yy. refl))
 
 caa3-named : (places : ℕ) (d : Data) (i : Index) → IsNamed places d i CAA3
-caa3-named places d i =
-    let v = rate_of_total_activity i.region i.slice i.tech i.year in
-    let w : ℕ → Var = λ m. rate_of_activity i.region i.slice i.tech m i.year in
-    definition places d i CAA3 v (sum_of_others v (modes d) w) refl (sum_of_others-defines v (modes d) w (λ m. refl))
+caa3-named places d i = definition places d i CAA3 _ (sum_of_others _ (modes d) _) refl (sum_of_others-defines _ (modes d) _ (λ m. refl))
 
 equations : (places : ℕ) (d : Data) (i : Index) → EachFrom (IsNamed places d i) CAA1 5
 equations places d i = (

@@ -13,20 +13,22 @@ ghost use Rattle.named_equations.specs.Indices.{by_rty, by_rlty};
 ghost use Rattle.capacity_rows.specs.Capacity.{caa1, caa2, caa3, caa4, cab1, slices_capacity, year_capacity};
 ghost use Rattle.named_equations.specs.Within.{IsRegion, IsSlice, IsTechnology, IsYear};
 
-use equation_parts::parameters::{
-    availability_factor, capacity_factor, capacity_to_activity_unit, residual_capacity, year_split,
-};
-use equation_parts::variables::{
-    accumulated_new_capacity, new_capacity, rate_of_activity, rate_of_total_activity,
-    total_capacity_annual,
-};
+use equation_parts::parameters::{value, year_split};
 use equation_parts::whole_numbers::operational_life;
 use equation_parts::years::still_counts;
+use equation_parts::{index, variable};
 use exact_num::Frac;
+use model_sets::param_numbers::{
+    AVAILABILITY_FACTOR, CAPACITY_FACTOR, CAPACITY_TO_ACTIVITY_UNIT, RESIDUAL_CAPACITY,
+};
 use model_sets::set_numbers::{MODE_OF_OPERATION, TIMESLICE, YEAR};
 use param_tables::ModelData;
+use row_core::kind_numbers::{
+    ACCUMULATED_NEW_CAPACITY, NEW_CAPACITY, RATE_OF_ACTIVITY, RATE_OF_TOTAL_ACTIVITY,
+    TOTAL_CAPACITY_ANNUAL,
+};
 use row_core::{
-    Index, LeftSide, Row, RowName, Sense, Stopped, minus_one, negative, one, plus, times, zero,
+    Index, LeftSide, Row, RowName, Sense, Stopped, Var, minus_one, negative, one, plus, times, zero,
 };
 use std::alloc::Global;
 
@@ -37,14 +39,10 @@ pub(crate) fn caa1(alloc: Global, model: &ModelData, name: RowName) -> Result<Ro
     requires year { IsYear model.now.facts name.index.year }
     ensures { IsWritten name (by_rty (caa1 model.now.facts) name.index) result }
 {
-    let Index {
-        region: r,
-        tech: t,
-        year: y,
-        ..
-    } = name.index;
+    let index!(region r, tech t, year y) = name.index;
     let mut left = LeftSide::new(alloc, name);
-    left.add(accumulated_new_capacity(r, t, y), one())?;
+    let built = variable!(ACCUMULATED_NEW_CAPACITY; region r, tech t, year y);
+    left.add(built, one())?;
     let life = operational_life(model, r, t);
     left.add_where(
         model.sets().count(YEAR),
@@ -55,7 +53,10 @@ pub(crate) fn caa1(alloc: Global, model: &ModelData, name: RowName) -> Result<Ro
             ensures { IsTermWhere (still_counts model.entry.now.facts r t y yy) (less (new_capacity r t yy)) result }
         {
             if still_counts(model, life, y, yy) {
-                Some((new_capacity(r, t, yy), minus_one()))
+                Some((
+                    variable!(NEW_CAPACITY; region r, tech t, year yy),
+                    minus_one(),
+                ))
             } else {
                 None
             }
@@ -71,34 +72,33 @@ pub(crate) fn caa2(alloc: Global, model: &ModelData, name: RowName) -> Result<Ro
     requires year { IsYear model.now.facts name.index.year }
     ensures { IsWritten name (by_rty (caa2 model.now.facts) name.index) result }
 {
-    let Index {
-        region: r,
-        tech: t,
-        year: y,
-        ..
-    } = name.index;
+    let index!(region r, tech t, year y) = name.index;
     let mut left = LeftSide::new(alloc, name);
-    left.add(total_capacity_annual(r, t, y), one())?;
-    left.add(accumulated_new_capacity(r, t, y), minus_one())?;
-    left.write(alloc, Sense::Equal, residual_capacity(model, r, t, y))
+    let capacity = variable!(TOTAL_CAPACITY_ANNUAL; region r, tech t, year y);
+    left.add(capacity, one())?;
+    let built = variable!(ACCUMULATED_NEW_CAPACITY; region r, tech t, year y);
+    left.add(built, minus_one())?;
+    left.write(
+        alloc,
+        Sense::Equal,
+        value(model, RESIDUAL_CAPACITY, &[r, t, y]),
+    )
 }
 
 /// CAa3: the activity of a technology is that of its modes.
 pub(crate) fn caa3(alloc: Global, model: &ModelData, name: RowName) -> Result<Row, Stopped>
     ensures { IsWritten name (by_rlty (caa3 model.now.facts) name.index) result }
 {
-    let Index {
-        region: r,
-        slice: l,
-        tech: t,
-        year: y,
-        ..
-    } = name.index;
+    let index!(region r, slice l, tech t, year y) = name.index;
     let mut left = LeftSide::new(alloc, name);
-    left.add(rate_of_total_activity(r, l, t, y), one())?;
+    let activity = variable!(RATE_OF_TOTAL_ACTIVITY; region r, slice l, tech t, year y);
+    left.add(activity, one())?;
     left.add_each(
         model.sets().count(MODE_OF_OPERATION),
-        |m| (rate_of_activity(r, l, t, m, y), minus_one()),
+        |m| (
+            variable!(RATE_OF_ACTIVITY; region r, slice l, tech t, mode m, year y),
+            minus_one(),
+        ),
     )?;
     left.write(alloc, Sense::Equal, zero())
 }
@@ -111,20 +111,16 @@ pub(crate) fn caa4(alloc: Global, model: &ModelData, name: RowName) -> Result<Ro
     requires year { IsYear model.now.facts name.index.year }
     ensures { IsWritten name (by_rlty (caa4 model.now.facts) name.index) result }
 {
-    let Index {
-        region: r,
-        slice: l,
-        tech: t,
-        year: y,
-        ..
-    } = name.index;
+    let index!(region r, slice l, tech t, year y) = name.index;
     let mut left = LeftSide::new(alloc, name);
-    left.add(rate_of_total_activity(r, l, t, y), one())?;
+    let activity = variable!(RATE_OF_TOTAL_ACTIVITY; region r, slice l, tech t, year y);
+    left.add(activity, one())?;
     let unit = times(
-        capacity_factor(model, r, t, l, y),
-        capacity_to_activity_unit(model, r, t),
+        value(model, CAPACITY_FACTOR, &[r, t, l, y]),
+        value(model, CAPACITY_TO_ACTIVITY_UNIT, &[r, t]),
     );
-    left.add(total_capacity_annual(r, t, y), negative(unit))?;
+    let capacity = variable!(TOTAL_CAPACITY_ANNUAL; region r, tech t, year y);
+    left.add(capacity, negative(unit))?;
     left.write(alloc, Sense::Most, zero())
 }
 
@@ -136,24 +132,22 @@ pub(crate) fn cab1(alloc: Global, model: &ModelData, name: RowName) -> Result<Ro
     requires year { IsYear model.now.facts name.index.year }
     ensures { IsWritten name (by_rty (cab1 model.now.facts) name.index) result }
 {
-    let Index {
-        region: r,
-        tech: t,
-        year: y,
-        ..
-    } = name.index;
+    let index!(region r, tech t, year y) = name.index;
     let mut left = LeftSide::new(alloc, name);
-    left.add(
-        total_capacity_annual(r, t, y),
-        negative(year_capacity(model, r, t, y)),
-    )?;
+    let capacity = variable!(TOTAL_CAPACITY_ANNUAL; region r, tech t, year y);
+    left.add(capacity, negative(year_capacity(model, r, t, y)))?;
     left.add_each(
         model.sets().count(TIMESLICE),
         |l|
             requires slice { IsSlice model.now.facts l }
             requires year { IsYear model.now.facts y }
             ensures { IsTerm (rate_of_total_activity r l t y, Billionths (year_split model.entry.now.facts l y)) result }
-        { (rate_of_total_activity(r, l, t, y), year_split(model, l, y)) },
+        {
+            (
+                variable!(RATE_OF_TOTAL_ACTIVITY; region r, slice l, tech t, year y),
+                year_split(model, l, y),
+            )
+        },
     )?;
     left.write(alloc, Sense::Most, zero())
 }
@@ -167,8 +161,8 @@ fn year_capacity(model: &ModelData, r: u16, t: u16, y: u16) -> Option<Frac>
 {
     let slices = slices_capacity(model, r, t, y);
     times(
-        times(slices, availability_factor(model, r, t, y)),
-        capacity_to_activity_unit(model, r, t),
+        times(slices, value(model, AVAILABILITY_FACTOR, &[r, t, y])),
+        value(model, CAPACITY_TO_ACTIVITY_UNIT, &[r, t]),
     )
 }
 
@@ -183,7 +177,10 @@ fn slices_capacity(model: &ModelData, r: u16, t: u16, y: u16) -> Option<Frac>
     for l in 0..model.sets().count(TIMESLICE) {
         sum = plus(
             sum,
-            times(capacity_factor(model, r, t, l, y), year_split(model, l, y)),
+            times(
+                value(model, CAPACITY_FACTOR, &[r, t, l, y]),
+                year_split(model, l, y),
+            ),
         );
     }
     sum

@@ -14,12 +14,12 @@ use Rattle.row_core.specs.EquationTerms.{once, less, coefficients_of}
 use Rattle.row_core.specs.Values.{IsSumOver, alone}
 use Rattle.named_equations.specs.Instances.{name_at, stands_at, variable_of}
 use Rattle.named_equations.specs.Notation.{◌equals◌, scale_of, factor_scale}
-use Rattle.named_equations.specs.Parameters.{capital_cost, variable_cost, fixed_cost}
-use Rattle.named_equations.specs.Positions.{technologies, modes, all_years, years_since_first, years_in_all}
+use Rattle.named_equations.specs.Parameters.{capital_cost}
+use Rattle.named_equations.specs.Positions.{technologies, modes, all_years}
 use Rattle.named_equations.specs.Plans.{says}
 use Rattle.named_equations.specs.TermShapes.{is_times}
-use Rattle.named_equations.specs.Variables.{new_capacity, total_capacity_annual, total_annual_technology_activity_by_mode, capital_investment, discounted_capital_investment, salvage_value, discounted_salvage_value, annual_variable_operating_cost, annual_fixed_operating_cost, operating_cost, discounted_operating_cost, discounted_technology_emissions_penalty, total_discounted_cost_by_technology, total_discounted_cost, model_period_cost_by_region}
-use Rattle.named_equations.specs.WrittenFactors.{annuity_of, capital_factor_of, operating_factor_of, recovery_factor_of, salvage_fraction_of}
+use Rattle.named_equations.specs.Variables.{new_capacity, capital_investment, discounted_capital_investment, salvage_value, discounted_salvage_value, annual_variable_operating_cost, annual_fixed_operating_cost, operating_cost, discounted_operating_cost, discounted_technology_emissions_penalty, total_discounted_cost_by_technology}
+use Rattle.named_equations.specs.WrittenFactors.{annuity_of, recovery_factor_of}
 use Rattle.named_equations.proofs.TermMeaning.{MeansStatement, IsNamedEquation, EachFrom, at_number, definition_is, sum_of_others, sum_of_others-defines, weighted_sum, weighted_sum-defines, scaled_other, scaled_other-defines, over-one, over-minus_one, over-data, sum-none, sum-term}
 use Rattle.named_equations.proofs.TermShapes.{made_of_others, made_of_others-defines, times_number, times_number-defines, factor_scale-positive, over-factor, over-value_factor, over-value_factors}
 use Rattle.cost_rows.specs.Rows.{IsCostEquation, terms_at}
@@ -115,29 +115,15 @@ cc1-named places d i =
     definition places d i CC1 v (invested places v w z f g d.second) refl (invested-defines places v w z f g d.second refl)
 
 cc2-named : (places : ℕ) (d : Data) (i : Index) → IsNamed places d i CC2
-cc2-named places d i =
-    let v = discounted_capital_investment i.region i.tech i.year in
-    let w = capital_investment i.region i.tech i.year in
-    let z = capital_factor_of places d i.region (years_since_first d i.year) in
-    definition places d i CC2 v (factored places v w z) refl (factored-defines places v w z refl)
+cc2-named places d i = definition places d i CC2 _ (factored places _ _ _) refl (factored-defines places _ _ _ refl)
 
 -- ---- salvage value
 
 sv1-named : (places : ℕ) (d : Data) (i : Index) → IsNamed places d i SV1
-sv1-named places d i =
-    let v = salvage_value i.region i.tech i.year in
-    let w = new_capacity i.region i.tech i.year in
-    let z = capital_cost d i.region i.tech i.year in
-    let f = salvage_fraction_of places d 1 i.region i.tech i.year in
-    definition places d i SV1 v (valued places v w z f) refl (valued-defines places v w z f refl)
+sv1-named places d i = definition places d i SV1 _ (valued places _ _ _ _) refl (valued-defines places _ _ _ _ refl)
 
 sv2-named : (places : ℕ) (d : Data) (i : Index) → IsNamed places d i SV2
-sv2-named places d i =
-    let v = salvage_value i.region i.tech i.year in
-    let w = new_capacity i.region i.tech i.year in
-    let z = capital_cost d i.region i.tech i.year in
-    let f = salvage_fraction_of places d 2 i.region i.tech i.year in
-    definition places d i SV2 v (valued places v w z f) refl (valued-defines places v w z f refl)
+sv2-named places d i = definition places d i SV2 _ (valued places _ _ _ _) refl (valued-defines places _ _ _ _ refl)
 
 sv3-named : (places : ℕ) (d : Data) (i : Index) → IsNamed places d i SV3
 sv3-named places d i =
@@ -147,27 +133,15 @@ sv3-named places d i =
     definition places d i SV3 v (made_of_others v [] none is) refl (made_of_others-defines v [] none is refl)
 
 sv4-named : (places : ℕ) (d : Data) (i : Index) → IsNamed places d i SV4
-sv4-named places d i =
-    let v = discounted_salvage_value i.region i.tech i.year in
-    let w = salvage_value i.region i.tech i.year in
-    let z = capital_factor_of places d i.region (years_in_all d) in
-    definition places d i SV4 v (factored places v w z) refl (factored-defines places v w z refl)
+sv4-named places d i = definition places d i SV4 _ (factored places _ _ _) refl (factored-defines places _ _ _ refl)
 
 -- ---- operating cost
 
 oc1-named : (places : ℕ) (d : Data) (i : Index) → IsNamed places d i OC1
-oc1-named places d i =
-    let v = annual_variable_operating_cost i.region i.tech i.year in
-    let w : ℕ → Var = λ m. total_annual_technology_activity_by_mode i.region i.tech m i.year in
-    let z : ℕ → ℤ = λ m. variable_cost d i.region i.tech m i.year in
-    definition places d i OC1 v (weighted_sum v (modes d) w z) refl (weighted_sum-defines v (modes d) w z (λ m. refl))
+oc1-named places d i = definition places d i OC1 _ (weighted_sum _ (modes d) _ _) refl (weighted_sum-defines _ (modes d) _ _ (λ m. refl))
 
 oc2-named : (places : ℕ) (d : Data) (i : Index) → IsNamed places d i OC2
-oc2-named places d i =
-    let v = annual_fixed_operating_cost i.region i.tech i.year in
-    let w = total_capacity_annual i.region i.tech i.year in
-    let z = fixed_cost d i.region i.tech i.year in
-    definition places d i OC2 v (scaled_other v w z) refl (scaled_other-defines v w z refl)
+oc2-named places d i = definition places d i OC2 _ (scaled_other _ _ _) refl (scaled_other-defines _ _ _ refl)
 
 two_away : (a b : ℤ) → neg_ℤ a +ℤ (neg_ℤ b +ℤ pos 0) ≡ neg_ℤ (a +ℤ b)
 two_away a b = omega (arith, ints)
@@ -185,11 +159,7 @@ oc3-named places d i =
     definition places d i OC3 v (made_of_others v others n is) refl (made_of_others-defines v others n is refl)
 
 oc4-named : (places : ℕ) (d : Data) (i : Index) → IsNamed places d i OC4
-oc4-named places d i =
-    let v = discounted_operating_cost i.region i.tech i.year in
-    let w = operating_cost i.region i.tech i.year in
-    let z = operating_factor_of places d i.region (years_since_first d i.year) in
-    definition places d i OC4 v (factored places v w z) refl (factored-defines places v w z refl)
+oc4-named places d i = definition places d i OC4 _ (factored places _ _ _) refl (factored-defines places _ _ _ refl)
 
 -- ---- total cost
 
@@ -214,16 +184,10 @@ tdc1-named places d i =
     definition places d i TDC1 v (made_of_others v others n is) refl (made_of_others-defines v others n is refl)
 
 tdc2-named : (places : ℕ) (d : Data) (i : Index) → IsNamed places d i TDC2
-tdc2-named places d i =
-    let v = total_discounted_cost i.region i.year in
-    let w : ℕ → Var = λ t. total_discounted_cost_by_technology i.region t i.year in
-    definition places d i TDC2 v (sum_of_others v (technologies d) w) refl (sum_of_others-defines v (technologies d) w (λ t. refl))
+tdc2-named places d i = definition places d i TDC2 _ (sum_of_others _ (technologies d) _) refl (sum_of_others-defines _ (technologies d) _ (λ t. refl))
 
 acc4-named : (places : ℕ) (d : Data) (i : Index) → IsNamed places d i ACC4
-acc4-named places d i =
-    let v = model_period_cost_by_region i.region in
-    let w : ℕ → Var = λ y. total_discounted_cost i.region y in
-    definition places d i ACC4 v (sum_of_others v (all_years d) w) refl (sum_of_others-defines v (all_years d) w (λ y. refl))
+acc4-named places d i = definition places d i ACC4 _ (sum_of_others _ (all_years d) _) refl (sum_of_others-defines _ (all_years d) _ (λ y. refl))
 
 -- ---- by number
 

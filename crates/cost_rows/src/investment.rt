@@ -10,12 +10,14 @@ ghost use Rattle.cost_rows.specs.Costs.{cc1, cc2, investment_in_unit};
 
 use discount_factors::Factors;
 use equation_parts::factors::{annuity, capital_factor, recovery_factor};
-use equation_parts::parameters::capital_cost;
+use equation_parts::parameters::value;
 use equation_parts::shapes::is_times;
-use equation_parts::variables::{capital_investment, discounted_capital_investment, new_capacity};
+use equation_parts::{index, variable};
 use exact_num::Frac;
+use model_sets::param_numbers::CAPITAL_COST;
 use param_tables::ModelData;
-use row_core::{Index, Row, RowName, Stopped, times};
+use row_core::kind_numbers::{CAPITAL_INVESTMENT, DISCOUNTED_CAPITAL_INVESTMENT, NEW_CAPACITY};
+use row_core::{Index, Row, RowName, Stopped, Var, times};
 use std::alloc::Global;
 
 /// The investment in a unit of capacity that is built in the year: its capital cost, and under profile 2 that times the
@@ -33,7 +35,7 @@ fn investment_in_unit(
     requires year { IsYear model.now.facts y }
     ensures { known result ≡ number_of (investment_in_unit (places_of factors.now) model.now.facts r t y) }
 {
-    let cost = capital_cost(model, r, t, y);
+    let cost = value(model, CAPITAL_COST, &[r, t, y]);
     if !model.second() {
         return cost;
     }
@@ -54,17 +56,12 @@ pub(crate) fn cc1(
     requires year { IsYear model.now.facts name.index.year }
     ensures { IsWritten name (by_rty (cc1 (places_of factors.now) model.now.facts) name.index) result }
 {
-    let Index {
-        region: r,
-        tech: t,
-        year: y,
-        ..
-    } = name.index;
+    let index!(region r, tech t, year y) = name.index;
     is_times(
         alloc,
         name,
-        capital_investment(r, t, y),
-        new_capacity(r, t, y),
+        variable!(CAPITAL_INVESTMENT; region r, tech t, year y),
+        variable!(NEW_CAPACITY; region r, tech t, year y),
         investment_in_unit(model, factors, r, t, y),
     )
 }
@@ -81,17 +78,12 @@ pub(crate) fn cc2(
     requires year { IsYear model.now.facts name.index.year }
     ensures { IsWritten name (by_rty (cc2 (places_of factors.now) model.now.facts) name.index) result }
 {
-    let Index {
-        region: r,
-        tech: t,
-        year: y,
-        ..
-    } = name.index;
+    let index!(region r, tech t, year y) = name.index;
     is_times(
         alloc,
         name,
-        discounted_capital_investment(r, t, y),
-        capital_investment(r, t, y),
+        variable!(DISCOUNTED_CAPITAL_INVESTMENT; region r, tech t, year y),
+        variable!(CAPITAL_INVESTMENT; region r, tech t, year y),
         capital_factor(model, factors, r, y),
     )
 }

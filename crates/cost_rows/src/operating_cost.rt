@@ -12,15 +12,19 @@ ghost use Rattle.cost_rows.specs.Costs.{oc1, oc2, oc3, oc4};
 
 use discount_factors::Factors;
 use equation_parts::factors::operating_factor;
-use equation_parts::parameters::{fixed_cost, variable_cost};
+use equation_parts::parameters::value;
 use equation_parts::shapes::is_times;
-use equation_parts::variables::{
-    annual_fixed_operating_cost, annual_variable_operating_cost, discounted_operating_cost,
-    operating_cost, total_annual_technology_activity_by_mode, total_capacity_annual,
-};
+use equation_parts::{index, variable};
+use model_sets::param_numbers::{FIXED_COST, VARIABLE_COST};
 use model_sets::set_numbers::MODE_OF_OPERATION;
 use param_tables::ModelData;
-use row_core::{Index, LeftSide, Row, RowName, Sense, Stopped, minus_one, negative, one, zero};
+use row_core::kind_numbers::{
+    ANNUAL_FIXED_OPERATING_COST, ANNUAL_VARIABLE_OPERATING_COST, DISCOUNTED_OPERATING_COST,
+    OPERATING_COST, TOTAL_ANNUAL_TECHNOLOGY_ACTIVITY_BY_MODE, TOTAL_CAPACITY_ANNUAL,
+};
+use row_core::{
+    Index, LeftSide, Row, RowName, Sense, Stopped, Var, minus_one, negative, one, zero,
+};
 use std::alloc::Global;
 
 /// OC1: the variable cost is the sum over the modes of their activity times its cost.
@@ -30,14 +34,10 @@ pub(crate) fn oc1(alloc: Global, model: &ModelData, name: RowName) -> Result<Row
     requires year { IsYear model.now.facts name.index.year }
     ensures { IsWritten name (by_rty (oc1 model.now.facts) name.index) result }
 {
-    let Index {
-        region: r,
-        tech: t,
-        year: y,
-        ..
-    } = name.index;
+    let index!(region r, tech t, year y) = name.index;
     let mut left = LeftSide::new(alloc, name);
-    left.add(annual_variable_operating_cost(r, t, y), one())?;
+    let running = variable!(ANNUAL_VARIABLE_OPERATING_COST; region r, tech t, year y);
+    left.add(running, one())?;
     left.add_each(
         model.sets().count(MODE_OF_OPERATION),
         |m|
@@ -48,8 +48,8 @@ pub(crate) fn oc1(alloc: Global, model: &ModelData, name: RowName) -> Result<Row
             ensures { IsTerm (total_annual_technology_activity_by_mode r t m y, Negative (Billionths (variable_cost model.entry.now.facts r t m y))) result }
         {
             (
-                total_annual_technology_activity_by_mode(r, t, m, y),
-                negative(variable_cost(model, r, t, m, y)),
+                variable!(TOTAL_ANNUAL_TECHNOLOGY_ACTIVITY_BY_MODE; region r, tech t, mode m, year y),
+                negative(value(model, VARIABLE_COST, &[r, t, m, y])),
             )
         },
     )?;
@@ -63,18 +63,13 @@ pub(crate) fn oc2(alloc: Global, model: &ModelData, name: RowName) -> Result<Row
     requires year { IsYear model.now.facts name.index.year }
     ensures { IsWritten name (by_rty (oc2 model.now.facts) name.index) result }
 {
-    let Index {
-        region: r,
-        tech: t,
-        year: y,
-        ..
-    } = name.index;
+    let index!(region r, tech t, year y) = name.index;
     is_times(
         alloc,
         name,
-        annual_fixed_operating_cost(r, t, y),
-        total_capacity_annual(r, t, y),
-        fixed_cost(model, r, t, y),
+        variable!(ANNUAL_FIXED_OPERATING_COST; region r, tech t, year y),
+        variable!(TOTAL_CAPACITY_ANNUAL; region r, tech t, year y),
+        value(model, FIXED_COST, &[r, t, y]),
     )
 }
 
@@ -82,16 +77,13 @@ pub(crate) fn oc2(alloc: Global, model: &ModelData, name: RowName) -> Result<Row
 pub(crate) fn oc3(alloc: Global, model: &ModelData, name: RowName) -> Result<Row, Stopped>
     ensures { IsWritten name (by_rty (oc3 model.now.facts) name.index) result }
 {
-    let Index {
-        region: r,
-        tech: t,
-        year: y,
-        ..
-    } = name.index;
+    let index!(region r, tech t, year y) = name.index;
     let mut left = LeftSide::new(alloc, name);
-    left.add(operating_cost(r, t, y), one())?;
-    left.add(annual_variable_operating_cost(r, t, y), minus_one())?;
-    left.add(annual_fixed_operating_cost(r, t, y), minus_one())?;
+    left.add(variable!(OPERATING_COST; region r, tech t, year y), one())?;
+    let running = variable!(ANNUAL_VARIABLE_OPERATING_COST; region r, tech t, year y);
+    left.add(running, minus_one())?;
+    let fixed = variable!(ANNUAL_FIXED_OPERATING_COST; region r, tech t, year y);
+    left.add(fixed, minus_one())?;
     left.write(alloc, Sense::Equal, zero())
 }
 
@@ -107,17 +99,12 @@ pub(crate) fn oc4(
     requires year { IsYear model.now.facts name.index.year }
     ensures { IsWritten name (by_rty (oc4 (places_of factors.now) model.now.facts) name.index) result }
 {
-    let Index {
-        region: r,
-        tech: t,
-        year: y,
-        ..
-    } = name.index;
+    let index!(region r, tech t, year y) = name.index;
     is_times(
         alloc,
         name,
-        discounted_operating_cost(r, t, y),
-        operating_cost(r, t, y),
+        variable!(DISCOUNTED_OPERATING_COST; region r, tech t, year y),
+        variable!(OPERATING_COST; region r, tech t, year y),
         operating_factor(model, factors, r, y),
     )
 }

@@ -16,6 +16,7 @@ use crate::operating_cost::{oc1, oc2, oc3, oc4};
 use crate::salvage::{sv1, sv2, sv3, sv4};
 use crate::total_cost::{acc4, tdc1, tdc2};
 use discount_factors::Factors;
+use equation_parts::index;
 use equation_parts::instances::row_where;
 use param_tables::ModelData;
 use row_core::equation_numbers::{CC1, CC2, OC1, OC2, OC3, OC4, SV1, SV2, SV3, SV4, TDC1, TDC2};
@@ -65,12 +66,7 @@ fn stands(model: &ModelData, eq: u8, at: Index) -> bool
     requires index { is_index model.now.facts (subscripts_of eq) at ≡ true }
     ensures { result ≡ stands_at model.now.facts eq at }
 {
-    let Index {
-        region: r,
-        tech: t,
-        year: y,
-        ..
-    } = at;
+    let index!(region r, tech t, year y) = at;
     match eq {
         SV1 => has_sv1(model, r, t, y),
         SV2 => has_sv2(model, r, t, y),

@@ -12,12 +12,14 @@ ghost use Rattle.cost_rows.specs.Costs.{salvage_value_of_unit, sv1, sv2, sv3, sv
 use crate::depreciation::{SINKING_FUND, STRAIGHT_LINE};
 use discount_factors::Factors;
 use equation_parts::factors::{final_capital_factor, salvage_fraction};
-use equation_parts::parameters::capital_cost;
+use equation_parts::parameters::value;
 use equation_parts::shapes::is_times;
-use equation_parts::variables::{discounted_salvage_value, new_capacity, salvage_value};
+use equation_parts::{index, variable};
 use exact_num::Frac;
+use model_sets::param_numbers::CAPITAL_COST;
 use param_tables::ModelData;
-use row_core::{Index, LeftSide, Row, RowName, Sense, Stopped, one, times, zero};
+use row_core::kind_numbers::{DISCOUNTED_SALVAGE_VALUE, NEW_CAPACITY, SALVAGE_VALUE};
+use row_core::{Index, LeftSide, Row, RowName, Sense, Stopped, Var, one, times, zero};
 use std::alloc::Global;
 
 /// The salvage value of a unit of capacity that is built in the year, by this method of depreciation.
@@ -39,7 +41,7 @@ fn salvage_value_of_unit(
     ensures { known result ≡ number_of (salvage_value_of_unit (places_of factors.now) model.now.facts method r t y) }
 {
     times(
-        capital_cost(model, r, t, y),
+        value(model, CAPITAL_COST, &[r, t, y]),
         salvage_fraction(model, factors, method, r, t, y),
     )
 }
@@ -58,17 +60,12 @@ pub(crate) fn sv1(
     requires outlasts { by_rty (outlasts model.now.facts) name.index ≡ true }
     ensures { IsWritten name (by_rty (sv1 (places_of factors.now) model.now.facts) name.index) result }
 {
-    let Index {
-        region: r,
-        tech: t,
-        year: y,
-        ..
-    } = name.index;
+    let index!(region r, tech t, year y) = name.index;
     is_times(
         alloc,
         name,
-        salvage_value(r, t, y),
-        new_capacity(r, t, y),
+        variable!(SALVAGE_VALUE; region r, tech t, year y),
+        variable!(NEW_CAPACITY; region r, tech t, year y),
         salvage_value_of_unit(model, factors, SINKING_FUND, r, t, y),
     )
 }
@@ -87,17 +84,12 @@ pub(crate) fn sv2(
     requires outlasts { by_rty (outlasts model.now.facts) name.index ≡ true }
     ensures { IsWritten name (by_rty (sv2 (places_of factors.now) model.now.facts) name.index) result }
 {
-    let Index {
-        region: r,
-        tech: t,
-        year: y,
-        ..
-    } = name.index;
+    let index!(region r, tech t, year y) = name.index;
     is_times(
         alloc,
         name,
-        salvage_value(r, t, y),
-        new_capacity(r, t, y),
+        variable!(SALVAGE_VALUE; region r, tech t, year y),
+        variable!(NEW_CAPACITY; region r, tech t, year y),
         salvage_value_of_unit(model, factors, STRAIGHT_LINE, r, t, y),
     )
 }
@@ -106,14 +98,9 @@ pub(crate) fn sv2(
 pub(crate) fn sv3(alloc: Global, model: &ModelData, name: RowName) -> Result<Row, Stopped>
     ensures { IsWritten name (by_rty (sv3 model.now.facts) name.index) result }
 {
-    let Index {
-        region: r,
-        tech: t,
-        year: y,
-        ..
-    } = name.index;
+    let index!(region r, tech t, year y) = name.index;
     let mut left = LeftSide::new(alloc, name);
-    left.add(salvage_value(r, t, y), one())?;
+    left.add(variable!(SALVAGE_VALUE; region r, tech t, year y), one())?;
     left.write(alloc, Sense::Equal, zero())
 }
 
@@ -129,17 +116,12 @@ pub(crate) fn sv4(
     requires year { IsYear model.now.facts name.index.year }
     ensures { IsWritten name (by_rty (sv4 (places_of factors.now) model.now.facts) name.index) result }
 {
-    let Index {
-        region: r,
-        tech: t,
-        year: y,
-        ..
-    } = name.index;
+    let index!(region r, tech t, year y) = name.index;
     is_times(
         alloc,
         name,
-        discounted_salvage_value(r, t, y),
-        salvage_value(r, t, y),
+        variable!(DISCOUNTED_SALVAGE_VALUE; region r, tech t, year y),
+        variable!(SALVAGE_VALUE; region r, tech t, year y),
         final_capital_factor(model, factors, r),
     )
 }

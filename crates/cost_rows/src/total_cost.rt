@@ -4,14 +4,15 @@ ghost use Rattle.row_core.specs.EquationTerms.{IsWritten};
 ghost use Rattle.named_equations.specs.Indices.{by_r, by_rty, by_ry};
 ghost use Rattle.cost_rows.specs.Costs.{tdc1, tdc2, acc4};
 
-use equation_parts::variables::{
-    discounted_capital_investment, discounted_operating_cost, discounted_salvage_value,
-    discounted_technology_emissions_penalty, model_period_cost_by_region, total_discounted_cost,
-    total_discounted_cost_by_technology,
-};
+use equation_parts::{index, variable};
 use model_sets::set_numbers::{TECHNOLOGY, YEAR};
 use param_tables::ModelData;
-use row_core::{Index, LeftSide, Row, RowName, Sense, Stopped, minus_one, one, zero};
+use row_core::kind_numbers::{
+    DISCOUNTED_CAPITAL_INVESTMENT, DISCOUNTED_OPERATING_COST, DISCOUNTED_SALVAGE_VALUE,
+    DISCOUNTED_TECHNOLOGY_EMISSIONS_PENALTY, MODEL_PERIOD_COST_BY_REGION, TOTAL_DISCOUNTED_COST,
+    TOTAL_DISCOUNTED_COST_BY_TECHNOLOGY,
+};
+use row_core::{Index, LeftSide, Row, RowName, Sense, Stopped, Var, minus_one, one, zero};
 use std::alloc::Global;
 
 /// TDC1: the cost of a technology is its operating cost, its investment and its emissions penalty, less its salvage
@@ -19,21 +20,18 @@ use std::alloc::Global;
 pub(crate) fn tdc1(alloc: Global, model: &ModelData, name: RowName) -> Result<Row, Stopped>
     ensures { IsWritten name (by_rty (tdc1 model.now.facts) name.index) result }
 {
-    let Index {
-        region: r,
-        tech: t,
-        year: y,
-        ..
-    } = name.index;
+    let index!(region r, tech t, year y) = name.index;
     let mut left = LeftSide::new(alloc, name);
-    left.add(total_discounted_cost_by_technology(r, t, y), one())?;
-    left.add(discounted_operating_cost(r, t, y), minus_one())?;
-    left.add(discounted_capital_investment(r, t, y), minus_one())?;
-    left.add(
-        discounted_technology_emissions_penalty(r, t, y),
-        minus_one(),
-    )?;
-    left.add(discounted_salvage_value(r, t, y), one())?;
+    let own = variable!(TOTAL_DISCOUNTED_COST_BY_TECHNOLOGY; region r, tech t, year y);
+    left.add(own, one())?;
+    let operating = variable!(DISCOUNTED_OPERATING_COST; region r, tech t, year y);
+    left.add(operating, minus_one())?;
+    let investment = variable!(DISCOUNTED_CAPITAL_INVESTMENT; region r, tech t, year y);
+    left.add(investment, minus_one())?;
+    let penalty = variable!(DISCOUNTED_TECHNOLOGY_EMISSIONS_PENALTY; region r, tech t, year y);
+    left.add(penalty, minus_one())?;
+    let salvage = variable!(DISCOUNTED_SALVAGE_VALUE; region r, tech t, year y);
+    left.add(salvage, one())?;
     left.write(alloc, Sense::Equal, zero())
 }
 
@@ -41,16 +39,15 @@ pub(crate) fn tdc1(alloc: Global, model: &ModelData, name: RowName) -> Result<Ro
 pub(crate) fn tdc2(alloc: Global, model: &ModelData, name: RowName) -> Result<Row, Stopped>
     ensures { IsWritten name (by_ry (tdc2 model.now.facts) name.index) result }
 {
-    let Index {
-        region: r,
-        year: y,
-        ..
-    } = name.index;
+    let index!(region r, year y) = name.index;
     let mut left = LeftSide::new(alloc, name);
-    left.add(total_discounted_cost(r, y), one())?;
+    left.add(variable!(TOTAL_DISCOUNTED_COST; region r, year y), one())?;
     left.add_each(
         model.sets().count(TECHNOLOGY),
-        |t| (total_discounted_cost_by_technology(r, t, y), minus_one()),
+        |t| (
+            variable!(TOTAL_DISCOUNTED_COST_BY_TECHNOLOGY; region r, tech t, year y),
+            minus_one(),
+        ),
     )?;
     left.write(alloc, Sense::Equal, zero())
 }
@@ -61,10 +58,13 @@ pub(crate) fn acc4(alloc: Global, model: &ModelData, name: RowName) -> Result<Ro
 {
     let r = name.index.region;
     let mut left = LeftSide::new(alloc, name);
-    left.add(model_period_cost_by_region(r), one())?;
+    left.add(variable!(MODEL_PERIOD_COST_BY_REGION; region r), one())?;
     left.add_each(
         model.sets().count(YEAR),
-        |y| (total_discounted_cost(r, y), minus_one()),
+        |y| (
+            variable!(TOTAL_DISCOUNTED_COST; region r, year y),
+            minus_one(),
+        ),
     )?;
     left.write(alloc, Sense::Equal, zero())
 }

@@ -1,5 +1,5 @@
 -- The terms of each equation of emissions mean it.
-use Rattle.std.proofs.Common.{◌≡◌, ◌≢◌, true, ℕ, inl, inr, ℤ, pos, neg_ℤ, ◌+ℤ◌, ◌-ℤ◌, ◌*ℤ◌, List, [], Some, None, refl, sym, ap, ◌∙◌, arith}
+use Rattle.std.proofs.Common.{◌≡◌, ◌≢◌, true, ℕ, inl, inr, ℤ, pos, neg_ℤ, ◌+ℤ◌, ◌-ℤ◌, ◌*ℤ◌, [], Some, None, refl, sym, ap, ◌∙◌, arith}
 use Rattle.std.specs.Prelude.{◌<ℤ◌}
 use Rattle.std.proofs.lemmas.Int.{ints}
 use Rattle.exact_num.proofs.Ring.{*ℤ_comm, neg_ℤ-*ℤ}
@@ -15,11 +15,10 @@ use Rattle.row_core.specs.Values.{alone}
 use Rattle.row_core.proofs.SumLaws.{IsOver-plus, IsOver-negated}
 use Rattle.named_equations.specs.Instances.{name_at, stands_at, variable_of}
 use Rattle.named_equations.specs.Notation.{sum_over, scale_of, factor_scale}
-use Rattle.named_equations.specs.Parameters.{emission_activity_ratio, emissions_penalty, annual_exogenous_emission, annual_emission_limit, model_period_exogenous_emission, model_period_emission_limit}
+use Rattle.named_equations.specs.Parameters.{emission_activity_ratio, annual_exogenous_emission, annual_emission_limit, model_period_exogenous_emission, model_period_emission_limit}
 use Rattle.named_equations.specs.Plans.{says}
 use Rattle.named_equations.specs.Positions.{technologies, emissions, all_years, years_since_first}
-use Rattle.named_equations.specs.Variables.{total_annual_technology_activity_by_mode, annual_technology_emission_by_mode, annual_technology_emission, annual_technology_emission_penalty_by_emission, annual_technology_emissions_penalty, discounted_technology_emissions_penalty, annual_emissions, model_period_emissions}
-use Rattle.named_equations.specs.Where.{emitting_modes}
+use Rattle.named_equations.specs.Variables.{total_annual_technology_activity_by_mode, annual_technology_emission_by_mode, annual_technology_emissions_penalty, discounted_technology_emissions_penalty, annual_emissions, model_period_emissions}
 use Rattle.named_equations.specs.WrittenFactors.{operating_factor_of}
 use Rattle.named_equations.proofs.TermMeaning.{MeansStatement, IsNamedEquation, EachFrom, at_number, definition_is, inequality_is, limit, scaled_other, scaled_other-defines, sum_of_others, sum_of_others-defines, sum_over-times, sum_over-zero, first_positive, alone-self, over-one, over-minus_one, over-data, sum-none, sum-term, sum-each}
 use Rattle.named_equations.proofs.TermShapes.{times_number, times_number-defines, factor_scale-positive, over-factor}
@@ -54,24 +53,13 @@ e1-named places d i =
     definition places d i E1 v (times_number s h v w (Billionths z) z (over-data z) n same) refl (times_number-defines s h v w (Billionths z) z (over-data z) n same refl)
 
 e2-named : (places : ℕ) (d : Data) (i : Index) → IsNamed places d i E2
-e2-named places d i =
-    let v = annual_technology_emission i.region i.tech i.emission i.year in
-    let is : List ℕ = emitting_modes d i.region i.tech i.emission i.year in
-    let w : ℕ → Var = λ m. annual_technology_emission_by_mode i.region i.tech i.emission m i.year in
-    definition places d i E2 v (sum_of_others v is w) refl (sum_of_others-defines v is w (λ m. refl))
+e2-named places d i = definition places d i E2 _ (sum_of_others _ _ _) refl (sum_of_others-defines _ _ _ (λ m. refl))
 
 e3-named : (places : ℕ) (d : Data) (i : Index) → IsNamed places d i E3
-e3-named places d i =
-    let v = annual_technology_emission_penalty_by_emission i.region i.tech i.emission i.year in
-    let w = annual_technology_emission i.region i.tech i.emission i.year in
-    let z : ℤ = emissions_penalty d i.region i.emission i.year in
-    definition places d i E3 v (scaled_other v w z) refl (scaled_other-defines v w z refl)
+e3-named places d i = definition places d i E3 _ (scaled_other _ _ _) refl (scaled_other-defines _ _ _ refl)
 
 e4-named : (places : ℕ) (d : Data) (i : Index) → IsNamed places d i E4
-e4-named places d i =
-    let v = annual_technology_emissions_penalty i.region i.tech i.year in
-    let w : ℕ → Var = λ e. annual_technology_emission_penalty_by_emission i.region i.tech e i.year in
-    definition places d i E4 v (sum_of_others v (emissions d) w) refl (sum_of_others-defines v (emissions d) w (λ e. refl))
+e4-named places d i = definition places d i E4 _ (sum_of_others _ (emissions d) _) refl (sum_of_others-defines _ (emissions d) _ (λ e. refl))
 
 e5-named : (places : ℕ) (d : Data) (i : Index) → IsNamed places d i E5
 e5-named places d i =
@@ -87,10 +75,7 @@ e5-named places d i =
 -- ---- regions
 
 e6-named : (places : ℕ) (d : Data) (i : Index) → IsNamed places d i E6
-e6-named places d i =
-    let v = annual_emissions i.region i.emission i.year in
-    let w : ℕ → Var = λ t. annual_technology_emission i.region t i.emission i.year in
-    definition places d i E6 v (sum_of_others v (technologies d) w) refl (sum_of_others-defines v (technologies d) w (λ t. refl))
+e6-named places d i = definition places d i E6 _ (sum_of_others _ (technologies d) _) refl (sum_of_others-defines _ (technologies d) _ (λ t. refl))
 
 period_balanced : (s p n r : ℤ) → ((s *ℤ p) +ℤ (neg_ℤ s *ℤ n)) +ℤ ((s *ℤ n) +ℤ r) ≡ (s *ℤ p) +ℤ r
 period_balanced s p n r = ap (λ y. ((s *ℤ p) +ℤ y) +ℤ ((s *ℤ n) +ℤ r)) (neg_ℤ-*ℤ s n) ∙ omega (arith, ints)

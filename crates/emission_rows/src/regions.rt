@@ -8,18 +8,19 @@ ghost use Rattle.named_equations.specs.Within.{IsRegion, IsEmission, IsYear};
 ghost use Rattle.emission_rows.specs.Emissions.{e6, e7, e8, e9};
 
 use equation_parts::limits::is_limit;
-use equation_parts::parameters::{
-    annual_emission_limit, annual_exogenous_emission, model_period_emission_limit,
-    model_period_exogenous_emission,
+use equation_parts::parameters::value;
+use equation_parts::{index, variable};
+use model_sets::param_numbers::{
+    ANNUAL_EMISSION_LIMIT, ANNUAL_EXOGENOUS_EMISSION, MODEL_PERIOD_EMISSION_LIMIT,
+    MODEL_PERIOD_EXOGENOUS_EMISSION,
 };
-use equation_parts::variables::{
-    annual_emissions, annual_technology_emission, model_period_emissions,
-};
-use model_sets::param_numbers::{ANNUAL_EMISSION_LIMIT, MODEL_PERIOD_EMISSION_LIMIT};
 use model_sets::set_numbers::{TECHNOLOGY, YEAR};
 use param_tables::ModelData;
+use row_core::kind_numbers::{
+    ANNUAL_EMISSIONS, ANNUAL_TECHNOLOGY_EMISSION, MODEL_PERIOD_EMISSIONS,
+};
 use row_core::{
-    Index, LeftSide, Row, RowName, Sense, Stopped, minus_one, negative, one, plus, zero,
+    Index, LeftSide, Row, RowName, Sense, Stopped, Var, minus_one, negative, one, plus, zero,
 };
 use std::alloc::Global;
 
@@ -27,17 +28,16 @@ use std::alloc::Global;
 pub(crate) fn e6(alloc: Global, model: &ModelData, name: RowName) -> Result<Row, Stopped>
     ensures { IsWritten name (by_rey (e6 model.now.facts) name.index) result }
 {
-    let Index {
-        region: r,
-        emission: e,
-        year: y,
-        ..
-    } = name.index;
+    let index!(region r, emission e, year y) = name.index;
     let mut left = LeftSide::new(alloc, name);
-    left.add(annual_emissions(r, e, y), one())?;
+    let own = variable!(ANNUAL_EMISSIONS; region r, emission e, year y);
+    left.add(own, one())?;
     left.add_each(
         model.sets().count(TECHNOLOGY),
-        |t| (annual_technology_emission(r, t, e, y), minus_one()),
+        |t| (
+            variable!(ANNUAL_TECHNOLOGY_EMISSION; region r, tech t, emission e, year y),
+            minus_one(),
+        ),
     )?;
     left.write(alloc, Sense::Equal, zero())
 }
@@ -48,21 +48,21 @@ pub(crate) fn e7(alloc: Global, model: &ModelData, name: RowName) -> Result<Row,
     requires emission { IsEmission model.now.facts name.index.emission }
     ensures { IsWritten name (by_re (e7 model.now.facts) name.index) result }
 {
-    let Index {
-        region: r,
-        emission: e,
-        ..
-    } = name.index;
+    let index!(region r, emission e) = name.index;
     let mut left = LeftSide::new(alloc, name);
-    left.add(model_period_emissions(r, e), one())?;
+    let own = variable!(MODEL_PERIOD_EMISSIONS; region r, emission e);
+    left.add(own, one())?;
     left.add_each(
         model.sets().count(YEAR),
-        |y| (annual_emissions(r, e, y), minus_one()),
+        |y| (
+            variable!(ANNUAL_EMISSIONS; region r, emission e, year y),
+            minus_one(),
+        ),
     )?;
     left.write(
         alloc,
         Sense::Equal,
-        model_period_exogenous_emission(model, r, e),
+        value(model, MODEL_PERIOD_EXOGENOUS_EMISSION, &[r, e]),
     )
 }
 
@@ -83,19 +83,18 @@ pub(crate) fn e8(alloc: Global, model: &ModelData, name: RowName) -> Result<Row,
     requires year { IsYear model.now.facts name.index.year }
     ensures { IsWritten name (by_rey (e8 model.now.facts) name.index) result }
 {
-    let Index {
-        region: r,
-        emission: e,
-        year: y,
-        ..
-    } = name.index;
+    let index!(region r, emission e, year y) = name.index;
     let mut left = LeftSide::new(alloc, name);
-    left.add(annual_emissions(r, e, y), one())?;
-    let exogenous = annual_exogenous_emission(model, r, e, y);
+    let own = variable!(ANNUAL_EMISSIONS; region r, emission e, year y);
+    left.add(own, one())?;
+    let exogenous = value(model, ANNUAL_EXOGENOUS_EMISSION, &[r, e, y]);
     left.write(
         alloc,
         Sense::Most,
-        plus(annual_emission_limit(model, r, e, y), negative(exogenous)),
+        plus(
+            value(model, ANNUAL_EMISSION_LIMIT, &[r, e, y]),
+            negative(exogenous),
+        ),
     )
 }
 
@@ -114,12 +113,13 @@ pub(crate) fn e9(alloc: Global, model: &ModelData, name: RowName) -> Result<Row,
     requires emission { IsEmission model.now.facts name.index.emission }
     ensures { IsWritten name (by_re (e9 model.now.facts) name.index) result }
 {
-    let Index {
-        region: r,
-        emission: e,
-        ..
-    } = name.index;
+    let index!(region r, emission e) = name.index;
     let mut left = LeftSide::new(alloc, name);
-    left.add(model_period_emissions(r, e), one())?;
-    left.write(alloc, Sense::Most, model_period_emission_limit(model, r, e))
+    let own = variable!(MODEL_PERIOD_EMISSIONS; region r, emission e);
+    left.add(own, one())?;
+    left.write(
+        alloc,
+        Sense::Most,
+        value(model, MODEL_PERIOD_EMISSION_LIMIT, &[r, e]),
+    )
 }

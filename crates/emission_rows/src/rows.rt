@@ -13,6 +13,7 @@ ghost use Rattle.emission_rows.specs.Rows.{IsEmissionEquation, terms_at};
 use crate::regions::{e6, e7, e8, e9, has_e8, has_e9};
 use crate::technologies::{e1, e2, e3, e4, e5};
 use discount_factors::Factors;
+use equation_parts::index;
 use equation_parts::instances::row_where;
 use equation_parts::ratios::emits_in_mode;
 use param_tables::ModelData;
@@ -61,14 +62,7 @@ fn stands(model: &ModelData, eq: u8, at: Index) -> bool
     requires index { is_index model.now.facts (subscripts_of eq) at ≡ true }
     ensures { result ≡ stands_at model.now.facts eq at }
 {
-    let Index {
-        region: r,
-        tech: t,
-        emission: e,
-        mode: m,
-        year: y,
-        ..
-    } = at;
+    let index!(region r, tech t, emission e, mode m, year y) = at;
     match eq {
         E1 => emits_in_mode(model, r, t, e, m, y),
         E8 => has_e8(model, r, e, y),

@@ -8,16 +8,18 @@ ghost use Rattle.emission_rows.specs.Emissions.{e1, e2, e3, e4, e5};
 
 use discount_factors::Factors;
 use equation_parts::factors::operating_factor;
-use equation_parts::parameters::{emission_activity_ratio, emissions_penalty};
+use equation_parts::parameters::value;
 use equation_parts::shapes::{is_times, take_away_each};
-use equation_parts::variables::{
-    annual_technology_emission, annual_technology_emission_by_mode,
-    annual_technology_emission_penalty_by_emission, annual_technology_emissions_penalty,
-    discounted_technology_emissions_penalty, total_annual_technology_activity_by_mode,
-};
+use equation_parts::{index, variable};
+use model_sets::param_numbers::{EMISSION_ACTIVITY_RATIO, EMISSIONS_PENALTY};
 use model_sets::set_numbers::EMISSION;
 use param_tables::{ActivityRatio, ModelData};
-use row_core::{Index, LeftSide, Row, RowName, Sense, Stopped, minus_one, one, zero};
+use row_core::kind_numbers::{
+    ANNUAL_TECHNOLOGY_EMISSION, ANNUAL_TECHNOLOGY_EMISSION_BY_MODE,
+    ANNUAL_TECHNOLOGY_EMISSION_PENALTY_BY_EMISSION, ANNUAL_TECHNOLOGY_EMISSIONS_PENALTY,
+    DISCOUNTED_TECHNOLOGY_EMISSIONS_PENALTY, TOTAL_ANNUAL_TECHNOLOGY_ACTIVITY_BY_MODE,
+};
+use row_core::{Index, LeftSide, Row, RowName, Sense, Stopped, Var, minus_one, one, zero};
 use std::alloc::Global;
 
 /// E1: the emission of a mode is the mode's annual activity times the ratio.
@@ -29,20 +31,13 @@ pub(crate) fn e1(alloc: Global, model: &ModelData, name: RowName) -> Result<Row,
     requires year { IsYear model.now.facts name.index.year }
     ensures { IsWritten name (by_rtemy (e1 model.now.facts) name.index) result }
 {
-    let Index {
-        region: r,
-        tech: t,
-        emission: e,
-        mode: m,
-        year: y,
-        ..
-    } = name.index;
+    let index!(region r, tech t, emission e, mode m, year y) = name.index;
     is_times(
         alloc,
         name,
-        annual_technology_emission_by_mode(r, t, e, m, y),
-        total_annual_technology_activity_by_mode(r, t, m, y),
-        emission_activity_ratio(model, r, t, e, m, y),
+        variable!(ANNUAL_TECHNOLOGY_EMISSION_BY_MODE; region r, tech t, emission e, mode m, year y),
+        variable!(TOTAL_ANNUAL_TECHNOLOGY_ACTIVITY_BY_MODE; region r, tech t, mode m, year y),
+        value(model, EMISSION_ACTIVITY_RATIO, &[r, t, e, m, y]),
     )
 }
 
@@ -54,18 +49,13 @@ pub(crate) fn e2(alloc: Global, model: &ModelData, name: RowName) -> Result<Row,
     requires year { IsYear model.now.facts name.index.year }
     ensures { IsWritten name (by_rtey (e2 model.now.facts) name.index) result }
 {
-    let Index {
-        region: r,
-        tech: t,
-        emission: e,
-        year: y,
-        ..
-    } = name.index;
+    let index!(region r, tech t, emission e, year y) = name.index;
     let mut left = LeftSide::new(alloc, name);
-    left.add(annual_technology_emission(r, t, e, y), one())?;
+    let own = variable!(ANNUAL_TECHNOLOGY_EMISSION; region r, tech t, emission e, year y);
+    left.add(own, one())?;
     let modes = model.nonzero_modes(alloc, ActivityRatio::Emission, r, t, e, y)?;
     take_away_each(&mut left, &modes, |m| {
-        annual_technology_emission_by_mode(r, t, e, m, y)
+        variable!(ANNUAL_TECHNOLOGY_EMISSION_BY_MODE; region r, tech t, emission e, mode m, year y)
     })?;
     left.write(alloc, Sense::Equal, zero())
 }
@@ -77,19 +67,13 @@ pub(crate) fn e3(alloc: Global, model: &ModelData, name: RowName) -> Result<Row,
     requires year { IsYear model.now.facts name.index.year }
     ensures { IsWritten name (by_rtey (e3 model.now.facts) name.index) result }
 {
-    let Index {
-        region: r,
-        tech: t,
-        emission: e,
-        year: y,
-        ..
-    } = name.index;
+    let index!(region r, tech t, emission e, year y) = name.index;
     is_times(
         alloc,
         name,
-        annual_technology_emission_penalty_by_emission(r, t, e, y),
-        annual_technology_emission(r, t, e, y),
-        emissions_penalty(model, r, e, y),
+        variable!(ANNUAL_TECHNOLOGY_EMISSION_PENALTY_BY_EMISSION; region r, tech t, emission e, year y),
+        variable!(ANNUAL_TECHNOLOGY_EMISSION; region r, tech t, emission e, year y),
+        value(model, EMISSIONS_PENALTY, &[r, e, y]),
     )
 }
 
@@ -97,18 +81,14 @@ pub(crate) fn e3(alloc: Global, model: &ModelData, name: RowName) -> Result<Row,
 pub(crate) fn e4(alloc: Global, model: &ModelData, name: RowName) -> Result<Row, Stopped>
     ensures { IsWritten name (by_rty (e4 model.now.facts) name.index) result }
 {
-    let Index {
-        region: r,
-        tech: t,
-        year: y,
-        ..
-    } = name.index;
+    let index!(region r, tech t, year y) = name.index;
     let mut left = LeftSide::new(alloc, name);
-    left.add(annual_technology_emissions_penalty(r, t, y), one())?;
+    let own = variable!(ANNUAL_TECHNOLOGY_EMISSIONS_PENALTY; region r, tech t, year y);
+    left.add(own, one())?;
     left.add_each(
         model.sets().count(EMISSION),
         |e| (
-            annual_technology_emission_penalty_by_emission(r, t, e, y),
+            variable!(ANNUAL_TECHNOLOGY_EMISSION_PENALTY_BY_EMISSION; region r, tech t, emission e, year y),
             minus_one(),
         ),
     )?;
@@ -127,17 +107,12 @@ pub(crate) fn e5(
     requires year { IsYear model.now.facts name.index.year }
     ensures { IsWritten name (by_rty (e5 (places_of factors.now) model.now.facts) name.index) result }
 {
-    let Index {
-        region: r,
-        tech: t,
-        year: y,
-        ..
-    } = name.index;
+    let index!(region r, tech t, year y) = name.index;
     is_times(
         alloc,
         name,
-        discounted_technology_emissions_penalty(r, t, y),
-        annual_technology_emissions_penalty(r, t, y),
+        variable!(DISCOUNTED_TECHNOLOGY_EMISSIONS_PENALTY; region r, tech t, year y),
+        variable!(ANNUAL_TECHNOLOGY_EMISSIONS_PENALTY; region r, tech t, year y),
         operating_factor(model, factors, r, y),
     )
 }

@@ -10,6 +10,7 @@ pub mod limits;
 pub mod parameters;
 pub mod ratios;
 pub mod shapes;
-pub mod variables;
 pub mod whole_numbers;
 pub mod years;
+
+pub use indices::ORIGIN;

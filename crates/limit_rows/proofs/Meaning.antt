@@ -12,10 +12,10 @@ use Rattle.row_core.specs.Amounts.{Amount, Billionths, value_of_amount}
 use Rattle.row_core.specs.Values.{IsOver, alone}
 use Rattle.named_equations.specs.Instances.{name_at, stands_at, variable_of}
 use Rattle.named_equations.specs.Notation.{sum_over, scale_of}
-use Rattle.named_equations.specs.Parameters.{year_split, capacity_to_activity_unit, total_annual_max_capacity, total_annual_min_capacity, total_annual_max_capacity_investment, total_annual_min_capacity_investment, total_technology_annual_activity_upper_limit, total_technology_annual_activity_lower_limit, total_technology_model_period_activity_upper_limit, total_technology_model_period_activity_lower_limit, reserve_margin_tag_technology, reserve_margin_tag_fuel, reserve_margin, re_tag_technology, re_tag_fuel, re_min_production_target}
+use Rattle.named_equations.specs.Parameters.{year_split, capacity_to_activity_unit, total_annual_max_capacity, total_annual_min_capacity, total_annual_max_capacity_investment, total_annual_min_capacity_investment, total_technology_annual_activity_upper_limit, total_technology_annual_activity_lower_limit, total_technology_model_period_activity_upper_limit, total_technology_model_period_activity_lower_limit, reserve_margin_tag_technology, reserve_margin, re_tag_technology, re_tag_fuel, re_min_production_target}
 use Rattle.named_equations.specs.Positions.{technologies, fuels, timeslices, all_years}
 use Rattle.named_equations.specs.Plans.{says}
-use Rattle.named_equations.specs.Variables.{new_capacity, total_capacity_annual, rate_of_total_activity, rate_of_production, production_by_technology, use_by_technology, total_technology_annual_activity, total_technology_model_period_activity, total_capacity_in_reserve_margin, demand_needing_reserve_margin, production_by_technology_annual, total_re_production_annual, re_total_production_of_target_fuel_annual, use_by_technology_annual}
+use Rattle.named_equations.specs.Variables.{new_capacity, total_capacity_annual, rate_of_production, total_technology_annual_activity, total_technology_model_period_activity, total_capacity_in_reserve_margin, demand_needing_reserve_margin, production_by_technology_annual, total_re_production_annual, re_total_production_of_target_fuel_annual}
 use Rattle.named_equations.specs.Where.{produced_fuels, producing_technologies, produces}
 use Rattle.named_equations.proofs.TermMeaning.{MeansStatement, IsNamedEquation, EachFrom, at_number, definition_is, inequality_is, limit, sum_of_others, sum_of_others-defines, weighted_sum, weighted_sum-defines, over-data}
 use Rattle.limit_rows.specs.RenewableTarget.{part_for_target, re2}
@@ -57,11 +57,7 @@ ncc2-named places d i = inequality places d i NCC2 (limit Least (new_capacity i.
 -- ---- activity
 
 aac1-named : (places : ℕ) (d : Data) (i : Index) → IsNamed places d i AAC1
-aac1-named places d i =
-    let v = total_technology_annual_activity i.region i.tech i.year in
-    let w : ℕ → Var = λ l. rate_of_total_activity i.region l i.tech i.year in
-    let z : ℕ → ℤ = λ l. year_split d l i.year in
-    definition places d i AAC1 v (weighted_sum v (timeslices d) w z) refl (weighted_sum-defines v (timeslices d) w z (λ l. refl))
+aac1-named places d i = definition places d i AAC1 _ (weighted_sum _ (timeslices d) _ _) refl (weighted_sum-defines _ (timeslices d) _ _ (λ l. refl))
 
 aac2-named : (places : ℕ) (d : Data) (i : Index) → IsNamed places d i AAC2
 aac2-named places d i = inequality places d i AAC2 (limit Most (total_technology_annual_activity i.region i.tech i.year) (total_technology_annual_activity_upper_limit d i.region i.tech i.year)) refl
@@ -70,10 +66,7 @@ aac3-named : (places : ℕ) (d : Data) (i : Index) → IsNamed places d i AAC3
 aac3-named places d i = inequality places d i AAC3 (limit Least (total_technology_annual_activity i.region i.tech i.year) (total_technology_annual_activity_lower_limit d i.region i.tech i.year)) refl
 
 tac1-named : (places : ℕ) (d : Data) (i : Index) → IsNamed places d i TAC1
-tac1-named places d i =
-    let v = total_technology_model_period_activity i.region i.tech in
-    let w : ℕ → Var = λ y. total_technology_annual_activity i.region i.tech y in
-    definition places d i TAC1 v (sum_of_others v (all_years d) w) refl (sum_of_others-defines v (all_years d) w (λ y. refl))
+tac1-named places d i = definition places d i TAC1 _ (sum_of_others _ (all_years d) _) refl (sum_of_others-defines _ (all_years d) _ (λ y. refl))
 
 tac2-named : (places : ℕ) (d : Data) (i : Index) → IsNamed places d i TAC2
 tac2-named places d i = inequality places d i TAC2 (limit Most (total_technology_model_period_activity i.region i.tech) (total_technology_model_period_activity_upper_limit d i.region i.tech)) refl
@@ -97,11 +90,7 @@ rm1-named places d i =
     (sum_of_products-defines s h v (technologies d) w a (λ t. tag t *ℤ unit t) over (λ t. refl))
 
 rm2-named : (places : ℕ) (d : Data) (i : Index) → IsNamed places d i RM2
-rm2-named places d i =
-    let v = demand_needing_reserve_margin i.region i.slice i.year in
-    let w : ℕ → Var = λ f. rate_of_production i.region i.slice f i.year in
-    let z : ℕ → ℤ = λ f. reserve_margin_tag_fuel d i.region f i.year in
-    definition places d i RM2 v (weighted_sum v (fuels d) w z) refl (weighted_sum-defines v (fuels d) w z (λ f. refl))
+rm2-named places d i = definition places d i RM2 _ (weighted_sum _ (fuels d) _ _) refl (weighted_sum-defines _ (fuels d) _ _ (λ f. refl))
 
 rm3-named : (places : ℕ) (d : Data) (i : Index) → IsNamed places d i RM3
 rm3-named places d i =
@@ -110,10 +99,7 @@ rm3-named places d i =
 -- ---- renewable target
 
 re1-named : (places : ℕ) (d : Data) (i : Index) → IsNamed places d i RE1
-re1-named places d i =
-    let v = production_by_technology_annual i.region i.tech i.fuel i.year in
-    let w : ℕ → Var = λ l. production_by_technology i.region l i.tech i.fuel i.year in
-    definition places d i RE1 v (sum_of_others v (timeslices d) w) refl (sum_of_others-defines v (timeslices d) w (λ l. refl))
+re1-named places d i = definition places d i RE1 _ (sum_of_others _ (timeslices d) _) refl (sum_of_others-defines _ (timeslices d) _ (λ l. refl))
 
 re2-named : (places : ℕ) (d : Data) (i : Index) → IsNamed places d i RE2
 re2-named places d i =
@@ -153,10 +139,7 @@ re4-named places d i =
     inequality places d i RE4 (covered (re_total_production_of_target_fuel_annual i.region i.year) (re_min_production_target d i.region i.year) (total_re_production_annual i.region i.year)) refl
 
 re5-named : (places : ℕ) (d : Data) (i : Index) → IsNamed places d i RE5
-re5-named places d i =
-    let v = use_by_technology_annual i.region i.tech i.fuel i.year in
-    let w : ℕ → Var = λ l. use_by_technology i.region l i.tech i.fuel i.year in
-    definition places d i RE5 v (sum_of_others v (timeslices d) w) refl (sum_of_others-defines v (timeslices d) w (λ l. refl))
+re5-named places d i = definition places d i RE5 _ (sum_of_others _ (timeslices d) _) refl (sum_of_others-defines _ (timeslices d) _ (λ l. refl))
 
 -- ---- by number
 

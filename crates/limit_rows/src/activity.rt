@@ -10,13 +10,16 @@ ghost use Rattle.named_equations.specs.Within.{IsSlice, IsYear};
 ghost use Rattle.limit_rows.specs.Limits.{aac1, tac1};
 
 use equation_parts::parameters::year_split;
-use equation_parts::variables::{
-    rate_of_total_activity, total_technology_annual_activity,
-    total_technology_model_period_activity,
-};
+use equation_parts::{index, variable};
 use model_sets::set_numbers::{TIMESLICE, YEAR};
 use param_tables::ModelData;
-use row_core::{Index, LeftSide, Row, RowName, Sense, Stopped, minus_one, negative, one, zero};
+use row_core::kind_numbers::{
+    RATE_OF_TOTAL_ACTIVITY, TOTAL_TECHNOLOGY_ANNUAL_ACTIVITY,
+    TOTAL_TECHNOLOGY_MODEL_PERIOD_ACTIVITY,
+};
+use row_core::{
+    Index, LeftSide, Row, RowName, Sense, Stopped, Var, minus_one, negative, one, zero,
+};
 use std::alloc::Global;
 
 /// AAC1: the activity in a year is the sum over the timeslices of its rate times their parts of the year.
@@ -24,14 +27,10 @@ pub(crate) fn aac1(alloc: Global, model: &ModelData, name: RowName) -> Result<Ro
     requires year { IsYear model.now.facts name.index.year }
     ensures { IsWritten name (by_rty (aac1 model.now.facts) name.index) result }
 {
-    let Index {
-        region: r,
-        tech: t,
-        year: y,
-        ..
-    } = name.index;
+    let index!(region r, tech t, year y) = name.index;
     let mut left = LeftSide::new(alloc, name);
-    left.add(total_technology_annual_activity(r, t, y), one())?;
+    let own = variable!(TOTAL_TECHNOLOGY_ANNUAL_ACTIVITY; region r, tech t, year y);
+    left.add(own, one())?;
     left.add_each(
         model.sets().count(TIMESLICE),
         |l|
@@ -40,7 +39,7 @@ pub(crate) fn aac1(alloc: Global, model: &ModelData, name: RowName) -> Result<Ro
             ensures { IsTerm (rate_of_total_activity r l t y, Negative (Billionths (year_split model.entry.now.facts l y))) result }
         {
             (
-                rate_of_total_activity(r, l, t, y),
+                variable!(RATE_OF_TOTAL_ACTIVITY; region r, slice l, tech t, year y),
                 negative(year_split(model, l, y)),
             )
         },
@@ -52,16 +51,16 @@ pub(crate) fn aac1(alloc: Global, model: &ModelData, name: RowName) -> Result<Ro
 pub(crate) fn tac1(alloc: Global, model: &ModelData, name: RowName) -> Result<Row, Stopped>
     ensures { IsWritten name (by_rt (tac1 model.now.facts) name.index) result }
 {
-    let Index {
-        region: r,
-        tech: t,
-        ..
-    } = name.index;
+    let index!(region r, tech t) = name.index;
     let mut left = LeftSide::new(alloc, name);
-    left.add(total_technology_model_period_activity(r, t), one())?;
+    let own = variable!(TOTAL_TECHNOLOGY_MODEL_PERIOD_ACTIVITY; region r, tech t);
+    left.add(own, one())?;
     left.add_each(
         model.sets().count(YEAR),
-        |y| (total_technology_annual_activity(r, t, y), minus_one()),
+        |y| (
+            variable!(TOTAL_TECHNOLOGY_ANNUAL_ACTIVITY; region r, tech t, year y),
+            minus_one(),
+        ),
     )?;
     left.write(alloc, Sense::Equal, zero())
 }

@@ -6,18 +6,9 @@ ghost use Rattle.named_equations.specs.Instances.{is_index, stands_at, subscript
 ghost use Rattle.limit_rows.specs.Rows.{IsLimitNumber, IsLimitOf, terms_at};
 
 use equation_parts::limits::{is_limit, is_positive};
-use equation_parts::parameters::{
-    total_annual_max_capacity, total_annual_max_capacity_investment, total_annual_min_capacity,
-    total_annual_min_capacity_investment, total_technology_annual_activity_lower_limit,
-    total_technology_annual_activity_upper_limit,
-    total_technology_model_period_activity_lower_limit,
-    total_technology_model_period_activity_upper_limit,
-};
+use equation_parts::parameters::value;
 use equation_parts::shapes::is_limited;
-use equation_parts::variables::{
-    new_capacity, total_capacity_annual, total_technology_annual_activity,
-    total_technology_model_period_activity,
-};
+use equation_parts::{index, variable};
 use exact_num::Frac;
 use model_sets::param_numbers::{
     TOTAL_ANNUAL_MAX_CAPACITY, TOTAL_ANNUAL_MAX_CAPACITY_INVESTMENT, TOTAL_ANNUAL_MIN_CAPACITY,
@@ -29,6 +20,10 @@ use model_sets::param_numbers::{
 use param_tables::ModelData;
 use row_core::Sense::{Least, Most};
 use row_core::equation_numbers::{AAC2, AAC3, NCC1, NCC2, TAC2, TCC1, TCC2};
+use row_core::kind_numbers::{
+    NEW_CAPACITY, TOTAL_CAPACITY_ANNUAL, TOTAL_TECHNOLOGY_ANNUAL_ACTIVITY,
+    TOTAL_TECHNOLOGY_MODEL_PERIOD_ACTIVITY,
+};
 use row_core::{Index, Row, RowName, Sense, Stopped, Var};
 use std::alloc::Global;
 
@@ -39,12 +34,7 @@ pub(crate) fn is_set(model: &ModelData, eq: u8, at: Index) -> bool
     requires index { is_index model.now.facts (subscripts_of eq) at ≡ true }
     ensures { result ≡ stands_at model.now.facts eq at }
 {
-    let Index {
-        region: r,
-        tech: t,
-        year: y,
-        ..
-    } = at;
+    let index!(region r, tech t, year y) = at;
     match eq {
         TCC1 => is_limit(model.at(TOTAL_ANNUAL_MAX_CAPACITY, &[r, t, y])),
         TCC2 => is_positive(model.at(TOTAL_ANNUAL_MIN_CAPACITY, &[r, t, y])),
@@ -73,48 +63,67 @@ fn limit_of(model: &ModelData, name: RowName) -> (Var, Sense, Option<Frac>)
     requires index { is_index model.now.facts (subscripts_of name.eq) name.index ≡ true }
     ensures { IsLimitOf (terms_at model.now.facts name) result }
 {
-    let Index {
-        region: r,
-        tech: t,
-        year: y,
-        ..
-    } = name.index;
-    let capacity = total_capacity_annual(r, t, y);
-    let built = new_capacity(r, t, y);
-    let activity = total_technology_annual_activity(r, t, y);
-    let period = total_technology_model_period_activity(r, t);
+    let index!(region r, tech t, year y) = name.index;
+    let capacity = variable!(TOTAL_CAPACITY_ANNUAL; region r, tech t, year y);
+    let built = variable!(NEW_CAPACITY; region r, tech t, year y);
+    let activity = variable!(TOTAL_TECHNOLOGY_ANNUAL_ACTIVITY; region r, tech t, year y);
+    let period = variable!(TOTAL_TECHNOLOGY_MODEL_PERIOD_ACTIVITY; region r, tech t);
     match name.eq {
-        TCC1 => (capacity, Most, total_annual_max_capacity(model, r, t, y)),
-        TCC2 => (capacity, Least, total_annual_min_capacity(model, r, t, y)),
+        TCC1 => (
+            capacity,
+            Most,
+            value(model, TOTAL_ANNUAL_MAX_CAPACITY, &[r, t, y]),
+        ),
+        TCC2 => (
+            capacity,
+            Least,
+            value(model, TOTAL_ANNUAL_MIN_CAPACITY, &[r, t, y]),
+        ),
         NCC1 => (
             built,
             Most,
-            total_annual_max_capacity_investment(model, r, t, y),
+            value(model, TOTAL_ANNUAL_MAX_CAPACITY_INVESTMENT, &[r, t, y]),
         ),
         NCC2 => (
             built,
             Least,
-            total_annual_min_capacity_investment(model, r, t, y),
+            value(model, TOTAL_ANNUAL_MIN_CAPACITY_INVESTMENT, &[r, t, y]),
         ),
         AAC2 => (
             activity,
             Most,
-            total_technology_annual_activity_upper_limit(model, r, t, y),
+            value(
+                model,
+                TOTAL_TECHNOLOGY_ANNUAL_ACTIVITY_UPPER_LIMIT,
+                &[r, t, y],
+            ),
         ),
         AAC3 => (
             activity,
             Least,
-            total_technology_annual_activity_lower_limit(model, r, t, y),
+            value(
+                model,
+                TOTAL_TECHNOLOGY_ANNUAL_ACTIVITY_LOWER_LIMIT,
+                &[r, t, y],
+            ),
         ),
         TAC2 => (
             period,
             Most,
-            total_technology_model_period_activity_upper_limit(model, r, t),
+            value(
+                model,
+                TOTAL_TECHNOLOGY_MODEL_PERIOD_ACTIVITY_UPPER_LIMIT,
+                &[r, t],
+            ),
         ),
         _ => (
             period,
             Least,
-            total_technology_model_period_activity_lower_limit(model, r, t),
+            value(
+                model,
+                TOTAL_TECHNOLOGY_MODEL_PERIOD_ACTIVITY_LOWER_LIMIT,
+                &[r, t],
+            ),
         ),
     }
 }

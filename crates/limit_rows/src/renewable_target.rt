@@ -10,20 +10,20 @@ ghost use Rattle.named_equations.specs.Variables.{rate_of_production};
 ghost use Rattle.named_equations.specs.Within.{IsRegion, IsSlice, IsTechnology, IsFuel, IsYear};
 ghost use Rattle.limit_rows.specs.RenewableTarget.{re1, re2, re3, re4, re5, part_for_target, products_of, renewable_production, target_production};
 
-use equation_parts::parameters::{
-    re_min_production_target, re_tag_fuel, re_tag_technology, year_split,
-};
+use equation_parts::parameters::{value, year_split};
 use equation_parts::shapes::is_covered;
-use equation_parts::variables::{
-    production_by_technology, production_by_technology_annual, rate_of_production,
-    re_total_production_of_target_fuel_annual, total_re_production_annual, use_by_technology,
-    use_by_technology_annual,
-};
+use equation_parts::{index, variable};
 use exact_num::Frac;
+use model_sets::param_numbers::{RE_MIN_PRODUCTION_TARGET, RE_TAG_FUEL, RE_TAG_TECHNOLOGY};
 use model_sets::set_numbers::{FUEL, TIMESLICE};
 use param_tables::{ActivityRatio, ModelData};
+use row_core::kind_numbers::{
+    PRODUCTION_BY_TECHNOLOGY, PRODUCTION_BY_TECHNOLOGY_ANNUAL, RATE_OF_PRODUCTION,
+    RE_TOTAL_PRODUCTION_OF_TARGET_FUEL_ANNUAL, TOTAL_RE_PRODUCTION_ANNUAL, USE_BY_TECHNOLOGY,
+    USE_BY_TECHNOLOGY_ANNUAL,
+};
 use row_core::{
-    Index, LeftSide, Row, RowName, Sense, Stopped, minus_one, negative, one, times, zero,
+    Index, LeftSide, Row, RowName, Sense, Stopped, Var, minus_one, negative, one, times, zero,
 };
 use std::alloc::{AllocError, Global};
 
@@ -31,18 +31,16 @@ use std::alloc::{AllocError, Global};
 pub(crate) fn re1(alloc: Global, model: &ModelData, name: RowName) -> Result<Row, Stopped>
     ensures { IsWritten name (by_rtfy (re1 model.now.facts) name.index) result }
 {
-    let Index {
-        region: r,
-        tech: t,
-        fuel: f,
-        year: y,
-        ..
-    } = name.index;
+    let index!(region r, tech t, fuel f, year y) = name.index;
     let mut left = LeftSide::new(alloc, name);
-    left.add(production_by_technology_annual(r, t, f, y), one())?;
+    let own = variable!(PRODUCTION_BY_TECHNOLOGY_ANNUAL; region r, tech t, fuel f, year y);
+    left.add(own, one())?;
     left.add_each(
         model.sets().count(TIMESLICE),
-        |l| (production_by_technology(r, l, t, f, y), minus_one()),
+        |l| (
+            variable!(PRODUCTION_BY_TECHNOLOGY; region r, slice l, tech t, fuel f, year y),
+            minus_one(),
+        ),
     )?;
     left.write(alloc, Sense::Equal, zero())
 }
@@ -53,13 +51,10 @@ pub(crate) fn re2(alloc: Global, model: &ModelData, name: RowName) -> Result<Row
     requires year { IsYear model.now.facts name.index.year }
     ensures { IsWritten name (by_ry (re2 model.now.facts) name.index) result }
 {
-    let Index {
-        region: r,
-        year: y,
-        ..
-    } = name.index;
+    let index!(region r, year y) = name.index;
     let mut left = LeftSide::new(alloc, name);
-    left.add(total_re_production_annual(r, y), one())?;
+    let own = variable!(TOTAL_RE_PRODUCTION_ANNUAL; region r, year y);
+    left.add(own, one())?;
     for f in 0..model.sets().count(FUEL) {
         subtract_renewable_production(alloc, &mut left, model, r, f, y)?;
     }
@@ -98,10 +93,11 @@ fn subtract_products(
     requires year { IsYear model.now.facts y }
     ensures { OnOk result (left.new ≡ with_amounts (products_of model.now.facts r f y makers.now) left.old) }
 {
-    for t in makers {
+    for maker in makers {
+        let t = *maker;
         left.add(
-            production_by_technology_annual(r, *t, f, y),
-            negative(re_tag_technology(model, r, *t, y)),
+            variable!(PRODUCTION_BY_TECHNOLOGY_ANNUAL; region r, tech t, fuel f, year y),
+            negative(value(model, RE_TAG_TECHNOLOGY, &[r, t, y])),
         )?;
     }
     Ok(())
@@ -114,13 +110,10 @@ pub(crate) fn re3(alloc: Global, model: &ModelData, name: RowName) -> Result<Row
     requires year { IsYear model.now.facts name.index.year }
     ensures { IsWritten name (by_ry (re3 model.now.facts) name.index) result }
 {
-    let Index {
-        region: r,
-        year: y,
-        ..
-    } = name.index;
+    let index!(region r, year y) = name.index;
     let mut left = LeftSide::new(alloc, name);
-    left.add(re_total_production_of_target_fuel_annual(r, y), one())?;
+    let own = variable!(RE_TOTAL_PRODUCTION_OF_TARGET_FUEL_ANNUAL; region r, year y);
+    left.add(own, one())?;
     for l in 0..model.sets().count(TIMESLICE) {
         subtract_target_production(&mut left, model, r, l, y)?;
     }
@@ -150,7 +143,7 @@ fn subtract_target_production(
             ensures { IsTerm (rate_of_production r l f y, Negative (part_for_target model.entry.now.facts r l f y)) result }
         {
             (
-                rate_of_production(r, l, f, y),
+                variable!(RATE_OF_PRODUCTION; region r, slice l, fuel f, year y),
                 negative(part_for_target(model, r, l, f, y)),
             )
         },
@@ -165,7 +158,10 @@ fn part_for_target(model: &ModelData, r: u16, l: u16, f: u16, y: u16) -> Option<
     requires year { IsYear model.now.facts y }
     ensures { known result ≡ number_of (part_for_target model.now.facts r l f y) }
 {
-    times(year_split(model, l, y), re_tag_fuel(model, r, f, y))
+    times(
+        year_split(model, l, y),
+        value(model, RE_TAG_FUEL, &[r, f, y]),
+    )
 }
 
 /// RE4: the target's part of that production is at most the renewable production.
@@ -174,17 +170,13 @@ pub(crate) fn re4(alloc: Global, model: &ModelData, name: RowName) -> Result<Row
     requires year { IsYear model.now.facts name.index.year }
     ensures { IsWritten name (by_ry (re4 model.now.facts) name.index) result }
 {
-    let Index {
-        region: r,
-        year: y,
-        ..
-    } = name.index;
+    let index!(region r, year y) = name.index;
     is_covered(
         alloc,
         name,
-        re_total_production_of_target_fuel_annual(r, y),
-        re_min_production_target(model, r, y),
-        total_re_production_annual(r, y),
+        variable!(RE_TOTAL_PRODUCTION_OF_TARGET_FUEL_ANNUAL; region r, year y),
+        value(model, RE_MIN_PRODUCTION_TARGET, &[r, y]),
+        variable!(TOTAL_RE_PRODUCTION_ANNUAL; region r, year y),
     )
 }
 
@@ -192,18 +184,16 @@ pub(crate) fn re4(alloc: Global, model: &ModelData, name: RowName) -> Result<Row
 pub(crate) fn re5(alloc: Global, model: &ModelData, name: RowName) -> Result<Row, Stopped>
     ensures { IsWritten name (by_rtfy (re5 model.now.facts) name.index) result }
 {
-    let Index {
-        region: r,
-        tech: t,
-        fuel: f,
-        year: y,
-        ..
-    } = name.index;
+    let index!(region r, tech t, fuel f, year y) = name.index;
     let mut left = LeftSide::new(alloc, name);
-    left.add(use_by_technology_annual(r, t, f, y), one())?;
+    let own = variable!(USE_BY_TECHNOLOGY_ANNUAL; region r, tech t, fuel f, year y);
+    left.add(own, one())?;
     left.add_each(
         model.sets().count(TIMESLICE),
-        |l| (use_by_technology(r, l, t, f, y), minus_one()),
+        |l| (
+            variable!(USE_BY_TECHNOLOGY; region r, slice l, tech t, fuel f, year y),
+            minus_one(),
+        ),
     )?;
     left.write(alloc, Sense::Equal, zero())
 }

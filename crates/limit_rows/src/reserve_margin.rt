@@ -11,19 +11,21 @@ ghost use Rattle.named_equations.specs.Variables.{rate_of_production, total_capa
 ghost use Rattle.named_equations.specs.Within.{IsRegion, IsTechnology, IsFuel, IsYear};
 ghost use Rattle.limit_rows.specs.ReserveMargin.{rm1, rm2, rm3, unit_in_margin};
 
-use equation_parts::parameters::{
-    capacity_to_activity_unit, reserve_margin, reserve_margin_tag_fuel,
-    reserve_margin_tag_technology,
-};
+use equation_parts::parameters::value;
 use equation_parts::shapes::is_covered;
-use equation_parts::variables::{
-    demand_needing_reserve_margin, rate_of_production, total_capacity_annual,
-    total_capacity_in_reserve_margin,
-};
+use equation_parts::{index, variable};
 use exact_num::Frac;
+use model_sets::param_numbers::{
+    CAPACITY_TO_ACTIVITY_UNIT, RESERVE_MARGIN, RESERVE_MARGIN_TAG_FUEL,
+    RESERVE_MARGIN_TAG_TECHNOLOGY,
+};
 use model_sets::set_numbers::{FUEL, TECHNOLOGY};
 use param_tables::ModelData;
-use row_core::{Index, LeftSide, Row, RowName, Sense, Stopped, negative, one, times, zero};
+use row_core::kind_numbers::{
+    DEMAND_NEEDING_RESERVE_MARGIN, RATE_OF_PRODUCTION, TOTAL_CAPACITY_ANNUAL,
+    TOTAL_CAPACITY_IN_RESERVE_MARGIN,
+};
+use row_core::{Index, LeftSide, Row, RowName, Sense, Stopped, Var, negative, one, times, zero};
 use std::alloc::Global;
 
 /// RM1: the capacity in the margin is the sum over the technologies of what their capacity adds.
@@ -32,13 +34,10 @@ pub(crate) fn rm1(alloc: Global, model: &ModelData, name: RowName) -> Result<Row
     requires year { IsYear model.now.facts name.index.year }
     ensures { IsWritten name (by_ry (rm1 model.now.facts) name.index) result }
 {
-    let Index {
-        region: r,
-        year: y,
-        ..
-    } = name.index;
+    let index!(region r, year y) = name.index;
     let mut left = LeftSide::new(alloc, name);
-    left.add(total_capacity_in_reserve_margin(r, y), one())?;
+    let own = variable!(TOTAL_CAPACITY_IN_RESERVE_MARGIN; region r, year y);
+    left.add(own, one())?;
     left.add_each(
         model.sets().count(TECHNOLOGY),
         |t|
@@ -48,7 +47,7 @@ pub(crate) fn rm1(alloc: Global, model: &ModelData, name: RowName) -> Result<Row
             ensures { IsTerm (total_capacity_annual r t y, Negative (unit_in_margin model.entry.now.facts r t y)) result }
         {
             (
-                total_capacity_annual(r, t, y),
+                variable!(TOTAL_CAPACITY_ANNUAL; region r, tech t, year y),
                 negative(unit_in_margin(model, r, t, y)),
             )
         },
@@ -64,8 +63,8 @@ fn unit_in_margin(model: &ModelData, r: u16, t: u16, y: u16) -> Option<Frac>
     ensures { known result ≡ number_of (unit_in_margin model.now.facts r t y) }
 {
     times(
-        reserve_margin_tag_technology(model, r, t, y),
-        capacity_to_activity_unit(model, r, t),
+        value(model, RESERVE_MARGIN_TAG_TECHNOLOGY, &[r, t, y]),
+        value(model, CAPACITY_TO_ACTIVITY_UNIT, &[r, t]),
     )
 }
 
@@ -75,14 +74,10 @@ pub(crate) fn rm2(alloc: Global, model: &ModelData, name: RowName) -> Result<Row
     requires year { IsYear model.now.facts name.index.year }
     ensures { IsWritten name (by_rly (rm2 model.now.facts) name.index) result }
 {
-    let Index {
-        region: r,
-        slice: l,
-        year: y,
-        ..
-    } = name.index;
+    let index!(region r, slice l, year y) = name.index;
     let mut left = LeftSide::new(alloc, name);
-    left.add(demand_needing_reserve_margin(r, l, y), one())?;
+    let own = variable!(DEMAND_NEEDING_RESERVE_MARGIN; region r, slice l, year y);
+    left.add(own, one())?;
     left.add_each(
         model.sets().count(FUEL),
         |f|
@@ -92,8 +87,8 @@ pub(crate) fn rm2(alloc: Global, model: &ModelData, name: RowName) -> Result<Row
             ensures { IsTerm (rate_of_production r l f y, Negative (Billionths (reserve_margin_tag_fuel model.entry.now.facts r f y))) result }
         {
             (
-                rate_of_production(r, l, f, y),
-                negative(reserve_margin_tag_fuel(model, r, f, y)),
+                variable!(RATE_OF_PRODUCTION; region r, slice l, fuel f, year y),
+                negative(value(model, RESERVE_MARGIN_TAG_FUEL, &[r, f, y])),
             )
         },
     )?;
@@ -106,17 +101,12 @@ pub(crate) fn rm3(alloc: Global, model: &ModelData, name: RowName) -> Result<Row
     requires year { IsYear model.now.facts name.index.year }
     ensures { IsWritten name (by_rly (rm3 model.now.facts) name.index) result }
 {
-    let Index {
-        region: r,
-        slice: l,
-        year: y,
-        ..
-    } = name.index;
+    let index!(region r, slice l, year y) = name.index;
     is_covered(
         alloc,
         name,
-        demand_needing_reserve_margin(r, l, y),
-        reserve_margin(model, r, y),
-        total_capacity_in_reserve_margin(r, y),
+        variable!(DEMAND_NEEDING_RESERVE_MARGIN; region r, slice l, year y),
+        value(model, RESERVE_MARGIN, &[r, y]),
+        variable!(TOTAL_CAPACITY_IN_RESERVE_MARGIN; region r, year y),
     )
 }

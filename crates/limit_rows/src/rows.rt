@@ -13,6 +13,7 @@ use crate::activity::{aac1, tac1};
 use crate::limits::{is_set, limit_row};
 use crate::renewable_target::{re1, re2, re3, re4, re5};
 use crate::reserve_margin::{rm1, rm2, rm3};
+use equation_parts::index;
 use equation_parts::instances::row_where;
 use equation_parts::ratios::{produces, uses};
 use param_tables::ModelData;
@@ -49,13 +50,7 @@ fn stands(model: &ModelData, eq: u8, at: Index) -> bool
     requires index { is_index model.now.facts (subscripts_of eq) at ≡ true }
     ensures { result ≡ stands_at model.now.facts eq at }
 {
-    let Index {
-        region: r,
-        tech: t,
-        fuel: f,
-        year: y,
-        ..
-    } = at;
+    let index!(region r, tech t, fuel f, year y) = at;
     match eq {
         AAC1 => true,
         TAC1 => true,

@@ -9,6 +9,6 @@ use Rattle.balance_rows.proofs.demand.eq_specified_demand.Goals as goal
 pub returns-clause-written : goal.returns-clause-written
 returns-clause-written c =
     c.write.ensures c.args.name (by_rlfy (eq_specified_demand c.args.model.now.facts) c.args.name.index)
-    (added c.in_ok-add.ensures c.rate_of_demand.ensures c.year_split.ensures.number c.new-left.ensures)
+    (added c.in_ok-add.ensures refl c.year_split.ensures.number c.new-left.ensures)
     refl
-    (c.times-demand.ensures ∙ ap₂ product_of c.specified_annual_demand.ensures c.specified_demand_profile.ensures)
+    (c.times-demand.ensures ∙ ap₂ product_of c.value.ensures c.value-2.ensures)

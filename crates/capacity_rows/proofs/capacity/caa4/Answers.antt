@@ -8,8 +8,8 @@ use Rattle.capacity_rows.proofs.capacity.caa4.Goals as goal
 
 pub returns : goal.returns
 returns c =
-    let unit = c.times-unit.ensures ∙ ap₂ product_of c.capacity_factor.ensures c.capacity_to_activity_unit.ensures in
+    let unit = c.times-unit.ensures ∙ ap₂ product_of c.value.ensures c.value-2.ensures in
     c.write.ensures c.args.name (by_rlty (caa4 c.args.model.now.facts) c.args.name.index)
-    (added c.in_ok-add-2.ensures c.total_capacity_annual.ensures (c.negative.ensures ∙ ap negative_of unit)
-    (added c.in_ok-add.ensures c.rate_of_total_activity.ensures c.one.ensures c.new-left.ensures))
+    (added c.in_ok-add-2.ensures refl (c.negative.ensures ∙ ap negative_of unit)
+    (added c.in_ok-add.ensures refl c.one.ensures c.new-left.ensures))
     refl c.zero.ensures

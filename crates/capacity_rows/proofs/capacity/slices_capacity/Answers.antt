@@ -26,6 +26,6 @@ loop-l-preserved c =
       c.loop-l.invariant.0,
       c.loop-l.invariant.1
           ∙ total-step part n i _ _ (subst (λ k. i < k) c.loop-l.invariant.0 c.loop-l-test.true)
-          (c.times.ensures ∙ ap₂ product_of c.capacity_factor.ensures c.year_split.ensures.number)
+          (c.times.ensures ∙ ap₂ product_of c.value.ensures c.year_split.ensures.number)
           ∙ ap (total_with_rest part n (i + 1)) (sym c.plus-sum.ensures),
     )

@@ -5,4 +5,4 @@ use Rattle.capacity_rows.proofs.capacity.year_capacity.Goals as goal
 
 pub returns : goal.returns
 returns c =
-    c.times-2.ensures ∙ ap₂ product_of (c.times.ensures ∙ ap₂ product_of c.slices_capacity-slices.ensures c.availability_factor.ensures) c.capacity_to_activity_unit.ensures
+    c.times-2.ensures ∙ ap₂ product_of (c.times.ensures ∙ ap₂ product_of c.slices_capacity-slices.ensures c.value.ensures) c.value-2.ensures

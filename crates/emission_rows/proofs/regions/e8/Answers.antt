@@ -9,6 +9,6 @@ use Rattle.emission_rows.proofs.regions.e8.Goals as goal
 pub returns : goal.returns
 returns c =
     c.write.ensures c.args.name (by_rey (e8 c.args.model.now.facts) c.args.name.index)
-    (added c.in_ok-add.ensures c.annual_emissions.ensures c.one.ensures c.new-left.ensures)
+    (added c.in_ok-add.ensures refl c.one.ensures c.new-left.ensures)
     refl
-    (c.plus.ensures ∙ ap₂ total_of c.annual_emission_limit.ensures (c.negative.ensures ∙ ap negative_of c.annual_exogenous_emission-exogenous.ensures))
+    (c.plus.ensures ∙ ap₂ total_of c.value.ensures (c.negative.ensures ∙ ap negative_of c.value-exogenous.ensures))

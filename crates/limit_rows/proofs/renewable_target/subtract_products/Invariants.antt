@@ -4,6 +4,6 @@ use Rattle.row_core.specs.Calculated.{with_amounts}
 use Rattle.limit_rows.specs.RenewableTarget.{products_of}
 use Rattle.limit_rows.proofs.renewable_target.subtract_products.Given as goal
 
-abbrev pub invariant-loop-t : goal.invariant-loop-t
-invariant-loop-t l =
-    with_amounts (products_of l.model.facts l.r l.f l.y l.fn.makers) l.fn.left ≡ with_amounts (products_of l.model.facts l.r l.f l.y (drop l.t-index l.makers)) l.left
+abbrev pub invariant-loop-maker : goal.invariant-loop-maker
+invariant-loop-maker l =
+    with_amounts (products_of l.model.facts l.r l.f l.y l.fn.makers) l.fn.left ≡ with_amounts (products_of l.model.facts l.r l.f l.y (drop l.maker-index l.makers)) l.left
