@@ -1,8 +1,8 @@
 -- The records of a file so far, and what the names are given by them.
-use Rattle.std.proofs.Common.{◌≡◌, ℕ, ◌+◌, ◌<◌, true, false, List, [], ◌∷◌, ◌++◌, Bor, length, map, replicate, Option, None, inl, inr, refl, sym, ap, ◌∙◌, subst, append_assoc, arith, drop, take}
+use Rattle.std.proofs.Common.{◌≡◌, ℕ, ◌+◌, ◌<◌, true, false, List, [], ◌∷◌, ◌++◌, Bor, length, replicate, Option, None, inl, inr, refl, sym, ap, ◌∙◌, subst, append_assoc, arith, drop, take}
 use Rattle.std.specs.Prelude.{Err}
 use Rattle.std.specs.Option.{option_map}
-use Rattle.std.proofs.lemmas.List.{append-nil, drop_all, get_or-replicate, length-append, length-map, length-replicate, take_all}
+use Rattle.std.proofs.lemmas.List.{append-nil, drop_all, get_or-replicate, length-append, length-replicate, take_all}
 use Rattle.csv.specs.declared.reader.Reader.{Reader}
 use Rattle.exact_num.specs.Value.{value_of}
 use Rattle.exact_num.specs.declared.fraction.Frac.{Frac}
@@ -23,20 +23,20 @@ pub record IsSoFar (names all : List Fields) (reader : Reader (Bor (List ℕ))) 
   pub right : AreRight names earlier
   pub taken : AreTaken names earlier values
 
-none_taken : {K : Type 0} (f : K → Fields) (keys : List K) (count : ℕ) → count ≡ length keys → AreTaken (map f keys) [] (replicate count None)
-none_taken f keys count many =
+none_taken : (names : List Fields) (count : ℕ) → count ≡ length names → AreTaken names [] (replicate count None)
+none_taken names count many =
     record {
-      many = length-replicate count None ∙ many ∙ sym (length-map keys f);
+      many = length-replicate count None ∙ many;
       each = λ i l. ap (option_map value_of) (get_or-replicate count i None None (inside i l));
     }
   where
-    inside : (i : ℕ) → i < length (map f keys) → i < count
-    inside i l = omega (arith, l, many, length-map keys f)
+    inside : (i : ℕ) → i < length names → i < count
+    inside i l = omega (arith, l, many)
 
-pub begun : {K : Type 0} (f : K → Fields) (keys : List K) (all : List Fields) (reader : Reader (Bor (List ℕ))) (values : List (Option Frac)) (count : ℕ) → count ≡ length keys → values ≡ replicate count None
-    → (later : List Fields) × (all ≡ header ∷ later) × HasLeft reader later → IsSoFar (map f keys) all reader 2 values
-begun f keys all reader values count many none (later, whole, left) =
-    record { earlier = []; later = later; count = refl; whole = whole; left = left; right = tt; taken = subst (AreTaken (map f keys) []) (sym none) (none_taken f keys count many) }
+pub begun : (names all : List Fields) (reader : Reader (Bor (List ℕ))) (values : List (Option Frac)) (count : ℕ) → count ≡ length names → values ≡ replicate count None
+    → (later : List Fields) × (all ≡ header ∷ later) × HasLeft reader later → IsSoFar names all reader 2 values
+begun names all reader values count many none (later, whole, left) =
+    record { earlier = []; later = later; count = refl; whole = whole; left = left; right = tt; taken = subst (AreTaken names []) (sym none) (none_taken names count many) }
 
 right_push : (names earlier rows : List Fields) (r : Fields) → AreRightAfter names earlier rows → IsRight names (earlier ++ rows) r → AreRightAfter names earlier (rows ++ r ∷ [])
 right_push names earlier [] r all right = (subst (λ xs. IsRight names xs r) (append-nil earlier) right, tt)

@@ -6,6 +6,7 @@ use Rattle.std.specs.Option.{option_map}
 use Rattle.exact_num.specs.Value.{value_of}
 use Rattle.exact_num.specs.declared.fraction.Frac.{Frac}
 use Rattle.csv.specs.Machine.{ends_at_end}
+use Rattle.csv.specs.Records.{Row, fields_of}
 use Rattle.csv.specs.Reading.{Ready, default_config, reader_config, reader_state, reader_trim, records_from, source_of}
 use Rattle.csv.specs.declared.reader.Reader.{Reader}
 use Rattle.csv.specs.declared.reader.Trim.TheVariants as trim
@@ -16,7 +17,7 @@ use Rattle.plan_files.specs.declared.faults.PlanFail.{PlanFail}
 use Rattle.plan_files.specs.declared.faults.PlanFail.TheVariants.{Fault, Memory}
 use Rattle.plan_files.specs.declared.faults.PlanFault.TheVariants.{BadRecord}
 use Rattle.plan_files.specs.Answers.{HasNoHeader, IsInForm}
-use Rattle.plan_files.specs.Files.{Fields, field, Gives, HasNoValue, HasValue}
+use Rattle.plan_files.specs.Files.{Fields, field, Gives, HasNoValue, HasValue, name_of}
 use Rattle.plan_files.specs.Records.{has_at, header, places}
 
 -- what is found is the value of the text
@@ -39,6 +40,10 @@ IsIndexOf sets has r i =
 abbrev pub IsEntry : List Fields → Fields → Option ℕ → Type 0
 IsEntry names name None = (j : ℕ) → j < length names → ¬ (slice_index_or names j [] ≡ name)
 IsEntry names name (Some i) = (i < length names) × (slice_index_or names i [] ≡ name) × ((j : ℕ) → j < length names → slice_index_or names j [] ≡ name → j ≡ i)
+
+-- at each record the answer is the place of the name that it has
+abbrev pub FindsPlaces : List Fields → (Row → Option ℕ → Type 0) → Type 0
+FindsPlaces names answers = (record_read : Row) (place : Option ℕ) → answers record_read place → IsEntry names (name_of (fields_of record_read)) place
 
 -- the bytes that a reader of a slice has left, if it has not failed
 abbrev pub bytes_left : Reader (Bor (List ℕ)) → Option (List ℕ)

@@ -19,9 +19,9 @@ pub use header::read_header;
 pub use laws::{reading_laws, telling_laws};
 pub use lines::Lines;
 pub use names::{place_of_row, place_of_variable, place_of_word};
-pub use reading::{names_of, read_multipliers, read_plan};
+pub use reading::{names_of, read_multipliers, read_plan, read_values};
 pub use records::{next_record, reader_of};
-pub use values::{first_without, no_values, take, with_values};
+pub use values::{first_without, with_values};
 pub use writing::{
     header_text, multiplier_text, plan_text, push_field, push_multipliers, push_plan, push_record,
     push_value,

@@ -1,13 +1,15 @@
 //! Plans and multipliers from text.
 
-ghost use Rattle.std.specs.Prelude.{◌≡◌, IfOk, IfErr, IsTrue, map};
+ghost use Rattle.std.specs.Prelude.{◌≡◌, ◌<◌, ℕ, List, Option, IfOk, IfErr, IfSome, IsTrue, length, map};
+ghost use Rattle.std.specs.Fn.{FnReturnsAt};
 ghost use Rattle.std.specs.List.{AllByRecursion};
+ghost use Rattle.csv.specs.Records.{Row as CsvRow, fields_of};
 ghost use Rattle.row_core.specs.Numbers.{ascends};
 ghost use Rattle.row_core.specs.Order.{var_cmp, row_name_cmp};
 ghost use Rattle.plan_files.specs.Answers.{AreMultipliers, BreaksFirst, IsFailOf, IsMultiplierFault, IsPlan, IsPlanFault, row_names, variable_names};
-ghost use Rattle.plan_files.specs.Files.{records_of};
+ghost use Rattle.plan_files.specs.Files.{Fields, name_of, records_of};
 ghost use Rattle.plan_files.specs.Listed.{IsListedRow, IsListedVariable, name_of_row};
-ghost use Rattle.plan_files.specs.Reading.{AreRead};
+ghost use Rattle.plan_files.specs.Reading.{AreRead, FindsPlaces, IsEntry};
 
 use crate::faults::{PlanFail, PlanFault};
 use crate::header::read_header;
@@ -81,18 +83,16 @@ fn plan_values(
     ensures read { IfOk result (λ values. AreRead (variable_names sets.now vars.now) (records_of text.now) values.items) }
     ensures fault { IfErr result (IsFailOf (BreaksFirst (variable_names sets.now vars.now) (records_of text.now))) }
 {
-    let mut values = no_values(alloc, vars.len())?;
-    let mut reader = reader_of(alloc, text);
-    let mut fields = ByteRecord::new(alloc);
-    read_header(&mut reader, &mut fields)?;
-    for number in 2..u64::MAX {
-        if !next_record(&mut reader, &mut fields)? {
-            return Ok(values);
-        }
-        let place = place_of_variable(&fields, vars, sets);
-        take(&mut values, &fields, number, place)?;
-    }
-    Err(PlanFail::Memory)
+    read_values(
+        alloc,
+        text,
+        vars.len(),
+        |fields: &ByteRecord|
+            requires ascending { IsTrue (ascends var_cmp vars.now) }
+            requires listed { AllByRecursion (IsListedVariable sets.now) vars.now }
+            ensures { IsEntry (variable_names sets.entry.now vars.entry.now) (name_of (fields_of fields.now)) result }
+        { place_of_variable(fields, vars, sets) },
+    )
 }
 
 /// The multiplier that the records give to each row, none where no record names it.
@@ -107,7 +107,35 @@ fn multiplier_values(
     ensures read { IfOk result (λ values. AreRead (row_names sets.now names.now) (records_of text.now) values.items) }
     ensures fault { IfErr result (IsFailOf (BreaksFirst (row_names sets.now names.now) (records_of text.now))) }
 {
-    let mut values = no_values(alloc, names.len())?;
+    read_values(
+        alloc,
+        text,
+        names.len(),
+        |fields: &ByteRecord|
+            requires ascending { IsTrue (ascends row_name_cmp names.now) }
+            requires listed { AllByRecursion (IsListedRow sets.now) names.now }
+            ensures { IsEntry (row_names sets.entry.now names.entry.now) (name_of (fields_of fields.now)) result }
+        { place_of_row(fields, names, sets) },
+    )
+}
+
+/// The value that the records of a text give to each of so many names, none where no record has the name; `place_of` finds the
+/// place of the name that a record has. Refuses a text without the header, and the first record that breaks a rule, and else
+/// only where memory runs out.
+pub fn read_values<P: Fn(&ByteRecord) -> Option<usize>>(
+    alloc: Global,
+    text: &[u8],
+    count: usize,
+    place_of: P,
+) -> Result<Vec<Option<Frac>>, PlanFail>
+    requires callable { P.IsAlwaysCallable place_of }
+    requires within { (fields : CsvRow) (place : Option ℕ) → FnReturnsAt P.Fn place_of fields place → IfSome place (λ i. i < count) }
+    ensures read { (names : List Fields) → count ≡ length names → FindsPlaces names (FnReturnsAt P.Fn place_of)
+        → IfOk result (λ values. AreRead names (records_of text.now) values.items) }
+    ensures fault { (names : List Fields) → count ≡ length names → FindsPlaces names (FnReturnsAt P.Fn place_of)
+        → IfErr result (IsFailOf (BreaksFirst names (records_of text.now))) }
+{
+    let mut values = no_values(alloc, count)?;
     let mut reader = reader_of(alloc, text);
     let mut fields = ByteRecord::new(alloc);
     read_header(&mut reader, &mut fields)?;
@@ -115,7 +143,7 @@ fn multiplier_values(
         if !next_record(&mut reader, &mut fields)? {
             return Ok(values);
         }
-        let place = place_of_row(&fields, names, sets);
+        let place = place_of(&fields);
         take(&mut values, &fields, number, place)?;
     }
     Err(PlanFail::Memory)

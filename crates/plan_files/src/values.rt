@@ -14,14 +14,14 @@ use exact_num::Frac;
 use std::alloc::{AllocError, Global};
 
 /// No value, so many times.
-pub fn no_values(alloc: Global, count: usize) -> Result<Vec<Option<Frac>>, AllocError>
+pub(crate) fn no_values(alloc: Global, count: usize) -> Result<Vec<Option<Frac>>, AllocError>
     ensures { IfOk result (λ values. values.items ≡ replicate count None) }
 {
     vec![in alloc; None; count]
 }
 
 /// Takes the value of a record, at the place of the name that it has. Refuses the first rule that the record breaks.
-pub fn take(
+pub(crate) fn take(
     values: &mut [Option<Frac>],
     fields: &ByteRecord,
     number: u64,

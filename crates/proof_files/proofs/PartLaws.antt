@@ -1,5 +1,5 @@
 -- Values that were taken for the names of several lists, apart.
-use Rattle.std.proofs.Common.{◌≡◌, ◌+◌, List, [], ◌∷◌, ◌++◌, length, get_or, map, drop, take, Option, None, refl, sym, ap, ap₂, ◌∙◌, subst, append_assoc, arith}
+use Rattle.std.proofs.Common.{◌≡◌, ◌+◌, List, [], ◌++◌, length, get_or, drop, take, Option, None, sym, ap₂, ◌∙◌, subst, append_assoc, arith}
 use Rattle.std.specs.Option.{option_map}
 use Rattle.std.proofs.lemmas.List.{get_or-append-add, get_or-drop, get_or-take, get_or_append_left, length-append, length-drop, length-map, length-take-le}
 use Rattle.exact_num.specs.Value.{value_of}
@@ -34,11 +34,6 @@ module _ (a b rows : List Fields) (values : List (Option Frac)) (taken : AreTake
             subst (λ name. Gives rows name (option_map value_of (get_or (drop (length a) values) i None))) (get_or-append-add a b i [])
             (subst (λ o. Gives rows (get_or (a ++ b) (length a + i) []) (option_map value_of o)) (sym (get_or-drop (length a) values i None)) (taken.each (length a + i) (omega (arith, l, length-append a b))));
       }
-
--- each name is its own
-pub itself : (names : List Fields) → map (λ name. name) names ≡ names
-itself [] = refl
-itself (name ∷ names) = ap (λ ns. name ∷ ns) (itself names)
 
 -- how many names there are
 pub names_many : (sets : SetLists) (vars : List Var) (names : List RowName) → length (proof_names sets vars names) ≡ length vars + length names + length vars

@@ -2,14 +2,15 @@
 
 ghost use Rattle.std.specs.Prelude.{◌≡◌, ◌<◌, ◌+◌, ◌^◌, IfOk, IfErr, IsTrue, List, OnOk, is_none, length, map};
 ghost use Rattle.std.specs.List.{AllByRecursion, list_all};
+ghost use Rattle.csv.specs.Records.{fields_of};
 ghost use Rattle.model_sets.specs.Members.{SetLists};
 ghost use Rattle.row_core.specs.Numbers.{ascends};
 ghost use Rattle.row_core.specs.Order.{var_cmp, row_name_cmp};
 ghost use Rattle.row_core.specs.Plans.{valued};
 ghost use Rattle.plan_files.specs.Answers.{BreaksFirst, IsFailOf, row_names, variable_names};
-ghost use Rattle.plan_files.specs.Files.{Fields, records_of};
+ghost use Rattle.plan_files.specs.Files.{Fields, name_of, records_of};
 ghost use Rattle.plan_files.specs.Listed.{IsListedRow, IsListedVariable, name_of_row};
-ghost use Rattle.plan_files.specs.Reading.{AreRead, AreTaken, with_values};
+ghost use Rattle.plan_files.specs.Reading.{AreRead, AreTaken, IsEntry, with_values};
 ghost use Rattle.proof_files.specs.ProofRecords.{direction_names, proof_names};
 ghost use Rattle.proof_files.specs.Proofs.{AreRecordsOf, IsProof, IsProofFault, MissesFirst};
 
@@ -18,10 +19,7 @@ use crate::proof::Proof;
 use csv::ByteRecord;
 use exact_num::Frac;
 use model_sets::Sets;
-use plan_files::{
-    PlanFail, PlanFault, first_without, names_of, next_record, no_values, read_header, reader_of,
-    take, with_values,
-};
+use plan_files::{PlanFail, PlanFault, first_without, names_of, read_values, with_values};
 use row_core::{Multipliers, Plan, Row, RowName, Var};
 use std::alloc::{AllocError, Global};
 
@@ -69,18 +67,19 @@ fn proof_values(
     ensures fault { IfErr result (IsFailOf (BreaksFirst (proof_names sets.now vars.now names.now) (records_of text.now))) }
 {
     let count = count_of(vars.len(), names.len())?;
-    let mut values = no_values(alloc, count)?;
-    let mut reader = reader_of(alloc, text);
-    let mut fields = ByteRecord::new(alloc);
-    read_header(&mut reader, &mut fields)?;
-    for number in 2..u64::MAX {
-        if !next_record(&mut reader, &mut fields)? {
-            return Ok(values);
-        }
-        let place = place_named(&fields, vars, names, sets);
-        take(&mut values, &fields, number, place)?;
-    }
-    Err(PlanFail::Memory)
+    read_values(
+        alloc,
+        text,
+        count,
+        |fields: &ByteRecord|
+            requires ascending_vars { IsTrue (ascends var_cmp vars.now) }
+            requires listed_vars { AllByRecursion (IsListedVariable sets.now) vars.now }
+            requires ascending_rows { IsTrue (ascends row_name_cmp names.now) }
+            requires listed_rows { AllByRecursion (IsListedRow sets.now) names.now }
+            requires room { length vars.now + length names.now + length vars.now < 2 ^ 64 }
+            ensures { IsEntry (proof_names sets.entry.now vars.entry.now names.entry.now) (name_of (fields_of fields.now)) result }
+        { place_named(fields, vars, names, sets) },
+    )
 }
 
 /// How many values there may be of so many variables and rows. Refuses a number that no memory holds.

@@ -1,0 +1,12 @@
+-- The records so far, whatever the names are whose places are found.
+use Rattle.std.proofs.Common.{◌≡◌, List, length}
+use Rattle.std.specs.Fn.{FnReturnsAt}
+use Rattle.plan_files.specs.Files.{Fields, records_of}
+use Rattle.plan_files.specs.Reading.{FindsPlaces}
+use Rattle.plan_files.proofs.SoFarLaws.{IsSoFar}
+use Rattle.plan_files.proofs.reading.read_values.Given as goal
+
+abbrev pub invariant-loop-number : goal.invariant-loop-number
+invariant-loop-number g l =
+    (length l.values.items ≡ l.fn.count)
+    × ((names : List Fields) → l.fn.count ≡ length names → FindsPlaces names (FnReturnsAt g.P.Fn l.fn.place_of) → IsSoFar names (records_of l.fn.text) l.reader l.number l.values.items)
