@@ -1,5 +1,5 @@
 -- What is told of a variable in two plans: its values in both, in millionths, and whether they differ.
-use Rattle.std.specs.Prelude.{ℕ, pos, Bool, true, false, ◌&&◌, not, List, ◌++◌, map, filter, Option, Some, None}
+use Rattle.std.specs.Prelude.{ℕ, pos, Bool, true, false, ◌&&◌, not, List, [], ◌∷◌, ◌++◌, map, filter, Option, Some, None, if◌then◌else◌}
 use Rattle.std.specs.Ordering.{int_eq}
 use Rattle.exact_num.specs.Rational.{Rational, whole}
 use Rattle.row_core.specs.declared.Var.{Var}
@@ -38,6 +38,15 @@ change_of_second e = record { in_second = true; var = e.0; one = Some (pos 0); t
 -- the value is one of the kind and not 0, and the other plan has none but 0 there
 abbrev pub is_new : ℕ → Side → Side → Var × Rational → Bool
 is_new kind first second e = is_shown kind e && is_zero (value_there kind second first e.0).top
+
+-- what is told of an entry that passes, and nothing of another
+abbrev pub told_where : {A : Type 0} → (A → Bool) → (A → Change) → A → Option Change
+told_where passes of e = if passes e then Some (of e) else None
+
+-- what there is, as a list
+abbrev pub listed : Option Change → List Change
+listed None = []
+listed (Some change) = change ∷ []
 
 -- the values of a kind that aren't 0 in both plans: those of the first in its order, and then those that the second alone has in its order
 abbrev pub changes : ℕ → Side → Side → List Change

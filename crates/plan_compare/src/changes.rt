@@ -5,10 +5,10 @@ ghost use Rattle.exact_num.specs.Value.{value_of};
 ghost use Rattle.row_core.specs.Kinds.{IsKind};
 ghost use Rattle.row_core.specs.Plans.{valued};
 ghost use Rattle.plan_tables.specs.ValueTables.{is_shown};
-ghost use Rattle.plan_compare.specs.Changes.{change_of_first, change_of_second, changes, is_new};
+ghost use Rattle.plan_compare.specs.Changes.{change_of_first, change_of_second, changes, is_new, told_where};
 ghost use Rattle.plan_compare.specs.Scenarios.{side_of};
 
-use crate::change::Change;
+use crate::change::{Change, push_told};
 use crate::scenario::Scenario;
 use crate::values::{is_same, is_shown, is_zero, value_there};
 use exact_num::Frac;
@@ -28,48 +28,35 @@ pub(crate) fn changes_of(
     ensures { IfOk result (λ all. all.items ≡ changes kind (side_of first.entry) (side_of second.entry)) }
 {
     let mut all = Vec::new(alloc);
-    push_first(&mut all, kind, first, second, first.plan.entries())?;
-    push_second(&mut all, kind, first, second, second.plan.entries())?;
+    push_told(
+        &mut all,
+        first.plan.entries(),
+        |var, value|
+            requires { IsKind kind }
+            ensures { result ≡ told_where (is_shown kind) (change_of_first kind (side_of first.entry) (side_of second.entry)) (var, value_of value) }
+        {
+            if is_shown(kind, var, value) {
+                Some(change_of_first(kind, first, second, var, value))
+            } else {
+                None
+            }
+        },
+    )?;
+    push_told(
+        &mut all,
+        second.plan.entries(),
+        |var, value|
+            requires { IsKind kind }
+            ensures { result ≡ told_where (is_new kind (side_of first.entry) (side_of second.entry)) change_of_second (var, value_of value) }
+        {
+            if is_new(kind, first, second, var, value) {
+                Some(change_of_second(var, value))
+            } else {
+                None
+            }
+        },
+    )?;
     Ok(all)
-}
-
-// Appends those of the first plan.
-fn push_first(
-    all: &mut Vec<Change>,
-    kind: u8,
-    first: Scenario<'_>,
-    second: Scenario<'_>,
-    entries: &[(Var, Frac)],
-) -> Result<(), AllocError>
-    requires { IsKind kind }
-    ensures { OnOk result (all.new.items ≡ all.old.items
-        ++ map (change_of_first kind (side_of first.entry) (side_of second.entry))
-        (filter (is_shown kind) (map valued entries.now))) }
-{
-    for (var, value) in entries {
-        push_of_first(all, kind, first, second, *var, *value)?;
-    }
-    Ok(())
-}
-
-// Appends a variable of the first plan, where its value is one of the kind and isn't 0.
-fn push_of_first(
-    all: &mut Vec<Change>,
-    kind: u8,
-    first: Scenario<'_>,
-    second: Scenario<'_>,
-    var: Var,
-    value: Frac,
-) -> Result<(), AllocError>
-    requires { IsKind kind }
-    ensures { OnOk result (all.new.items ≡ all.old.items
-        ++ map (change_of_first kind (side_of first.entry) (side_of second.entry))
-        (filter (is_shown kind) ((var, value_of value) ∷ []))) }
-{
-    if is_shown(kind, var, value) {
-        all.push(change_of_first(kind, first, second, var, value))?;
-    }
-    Ok(())
 }
 
 // A variable of the first plan.
@@ -91,45 +78,6 @@ fn change_of_first(
         two: millionths(two),
         differs: !is_same(value, two),
     }
-}
-
-// Appends those that the second plan alone has.
-fn push_second(
-    all: &mut Vec<Change>,
-    kind: u8,
-    first: Scenario<'_>,
-    second: Scenario<'_>,
-    entries: &[(Var, Frac)],
-) -> Result<(), AllocError>
-    requires { IsKind kind }
-    ensures { OnOk result (all.new.items ≡ all.old.items
-        ++ map change_of_second
-        (filter (is_new kind (side_of first.entry) (side_of second.entry)) (map valued entries.now))) }
-{
-    for (var, value) in entries {
-        push_of_second(all, kind, first, second, *var, *value)?;
-    }
-    Ok(())
-}
-
-// Appends a variable of the second plan, where the value of the same names in the first is 0.
-fn push_of_second(
-    all: &mut Vec<Change>,
-    kind: u8,
-    first: Scenario<'_>,
-    second: Scenario<'_>,
-    var: Var,
-    value: Frac,
-) -> Result<(), AllocError>
-    requires { IsKind kind }
-    ensures { OnOk result (all.new.items ≡ all.old.items
-        ++ map change_of_second
-        (filter (is_new kind (side_of first.entry) (side_of second.entry)) ((var, value_of value) ∷ []))) }
-{
-    if is_new(kind, first, second, var, value) {
-        all.push(change_of_second(var, value))?;
-    }
-    Ok(())
 }
 
 // Whether a value is one of the kind and not 0, and the other plan has none but 0 there.

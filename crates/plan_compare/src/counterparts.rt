@@ -1,28 +1,13 @@
 //! The same variable in other sets.
 
 ghost use Rattle.std.specs.Prelude.{◌≡◌, ◌<◌};
-ghost use Rattle.row_core.specs.NameTexts.{member, position_at, set_of};
-ghost use Rattle.model_sets.specs.Names.{IsSet};
+ghost use Rattle.row_core.specs.NameTexts.{member};
 ghost use Rattle.row_core.specs.Kinds.{IsKind};
 ghost use Rattle.plan_compare.specs.Counterparts.{counterpart, counts, position_there};
 
 use model_sets::Sets;
-use model_sets::set_numbers::{
-    EMISSION, FUEL, MODE_OF_OPERATION, REGION, TECHNOLOGY, TIMESLICE, YEAR,
-};
+use plan_tables::{position_at, set_of};
 use row_core::{Index, Var, var_has};
-
-/// The numbers of the sets over which the subscripts run, in the order of the fields of `Index`.
-const SUBSCRIPT_SETS: [u8; 8] = [
-    REGION,
-    REGION,
-    TIMESLICE,
-    TECHNOLOGY,
-    FUEL,
-    EMISSION,
-    MODE_OF_OPERATION,
-    YEAR,
-];
 
 /// The place of the year among the fields of `Index`.
 const YEAR_PLACE: u8 = 7;
@@ -99,36 +84,5 @@ pub(crate) fn member<'a>(sets: &'a Sets, at: Index, place: u8) -> &'a [u8]
         sets.name_of(set, position)
     } else {
         b""
-    }
-}
-
-// The number of the set over which the subscript at a place runs.
-fn set_of(place: u8) -> u8
-    ensures set { result ≡ set_of place }
-    ensures listed { IsSet result }
-{
-    match SUBSCRIPT_SETS.get(usize::from(place)) {
-        Some(set) => *set,
-        None => YEAR,
-    }
-}
-
-// The subscript at a place.
-fn position_at(at: Index, place: u8) -> u16
-    ensures { result ≡ position_at at place }
-{
-    let positions = [
-        at.region,
-        at.other,
-        at.slice,
-        at.tech,
-        at.fuel,
-        at.emission,
-        at.mode,
-        at.year,
-    ];
-    match positions.get(usize::from(place)) {
-        Some(position) => *position,
-        None => 0,
     }
 }

@@ -6,11 +6,12 @@ ghost use Rattle.exact_num.specs.Value.{value_of};
 ghost use Rattle.row_core.specs.Kinds.{IsKind};
 ghost use Rattle.row_core.specs.Plans.{valued};
 ghost use Rattle.plan_compare.specs.Counterparts.{counterpart};
+ghost use Rattle.plan_compare.specs.Changes.{told_where};
 ghost use Rattle.plan_compare.specs.Scenarios.{side_of};
 ghost use Rattle.plan_compare.specs.Sums.{at_year, change_of, differs_at_most_one, differs_by_year, differs_in, is_first, is_new_sum, is_told_at_most_one, is_told_in, shown_in, sum_at_most_one, sum_of, sum_of_first, sum_of_second, sums};
 
 use crate::amounts::{difference, size, sum_of_two};
-use crate::change::Change;
+use crate::change::{Change, push_told};
 use crate::counterparts::counterpart;
 use crate::scenario::Scenario;
 use crate::values::{is_same, is_shown, is_zero, value_there};
@@ -31,48 +32,35 @@ pub(crate) fn sums_of(
     ensures { IfOk result (λ all. all.items ≡ sums kind (side_of first.entry) (side_of second.entry)) }
 {
     let mut all = Vec::new(alloc);
-    push_first(&mut all, kind, first, second, first.plan.entries())?;
-    push_second(&mut all, kind, first, second, second.plan.entries())?;
+    push_told(
+        &mut all,
+        first.plan.entries(),
+        |var, value|
+            requires { IsKind kind }
+            ensures { result ≡ told_where (is_first kind (side_of first.entry)) (sum_of_first kind (side_of first.entry) (side_of second.entry)) (var, value_of value) }
+        {
+            if is_first(kind, first, var, value) {
+                Some(sum_of_first(kind, first, second, var))
+            } else {
+                None
+            }
+        },
+    )?;
+    push_told(
+        &mut all,
+        second.plan.entries(),
+        |var, value|
+            requires { IsKind kind }
+            ensures { result ≡ told_where (is_new_sum kind (side_of first.entry) (side_of second.entry)) (sum_of_second (side_of second.entry)) (var, value_of value) }
+        {
+            if is_new(kind, first, second, var, value) {
+                Some(change_of(true, var, Some(0), sum_of(second, var), true))
+            } else {
+                None
+            }
+        },
+    )?;
     Ok(all)
-}
-
-// Appends those of the first plan.
-fn push_first(
-    all: &mut Vec<Change>,
-    kind: u8,
-    first: Scenario<'_>,
-    second: Scenario<'_>,
-    entries: &[(Var, Frac)],
-) -> Result<(), AllocError>
-    requires { IsKind kind }
-    ensures { OnOk result (all.new.items ≡ all.old.items
-        ++ map (sum_of_first kind (side_of first.entry) (side_of second.entry))
-        (filter (is_first kind (side_of first.entry)) (map valued entries.now))) }
-{
-    for (var, value) in entries {
-        push_of_first(all, kind, first, second, *var, *value)?;
-    }
-    Ok(())
-}
-
-// Appends the sum of a variable of the first plan, where it is the first over the years.
-fn push_of_first(
-    all: &mut Vec<Change>,
-    kind: u8,
-    first: Scenario<'_>,
-    second: Scenario<'_>,
-    var: Var,
-    value: Frac,
-) -> Result<(), AllocError>
-    requires { IsKind kind }
-    ensures { OnOk result (all.new.items ≡ all.old.items
-        ++ map (sum_of_first kind (side_of first.entry) (side_of second.entry))
-        (filter (is_first kind (side_of first.entry)) ((var, value_of value) ∷ []))) }
-{
-    if is_first(kind, first, var, value) {
-        all.push(sum_of_first(kind, first, second, var))?;
-    }
-    Ok(())
 }
 
 // A sum of the first plan.
@@ -90,45 +78,6 @@ fn sum_of_first(kind: u8, first: Scenario<'_>, second: Scenario<'_>, var: Var) -
         sum_at_most_one(second, there),
         differs_by_year(kind, first, second, var),
     )
-}
-
-// Appends those that the second plan alone has.
-fn push_second(
-    all: &mut Vec<Change>,
-    kind: u8,
-    first: Scenario<'_>,
-    second: Scenario<'_>,
-    entries: &[(Var, Frac)],
-) -> Result<(), AllocError>
-    requires { IsKind kind }
-    ensures { OnOk result (all.new.items ≡ all.old.items
-        ++ map (sum_of_second (side_of second.entry))
-        (filter (is_new_sum kind (side_of first.entry) (side_of second.entry)) (map valued entries.now))) }
-{
-    for (var, value) in entries {
-        push_of_second(all, kind, first, second, *var, *value)?;
-    }
-    Ok(())
-}
-
-// Appends the sum of a variable of the second plan, where it is the first over the years and the first plan has none.
-fn push_of_second(
-    all: &mut Vec<Change>,
-    kind: u8,
-    first: Scenario<'_>,
-    second: Scenario<'_>,
-    var: Var,
-    value: Frac,
-) -> Result<(), AllocError>
-    requires { IsKind kind }
-    ensures { OnOk result (all.new.items ≡ all.old.items
-        ++ map (sum_of_second (side_of second.entry))
-        (filter (is_new_sum kind (side_of first.entry) (side_of second.entry)) ((var, value_of value) ∷ []))) }
-{
-    if is_new(kind, first, second, var, value) {
-        all.push(change_of(true, var, Some(0), sum_of(second, var), true))?;
-    }
-    Ok(())
 }
 
 // Whether a value is the first over the years that isn't 0, and the other plan has none.

@@ -11,4 +11,4 @@ mod values;
 pub use names::table_named;
 pub use shown::{NumberForm, Table};
 pub use tables::table_text;
-pub use values::{member_at, push_number};
+pub use values::{member_at, position_at, push_number, set_of};

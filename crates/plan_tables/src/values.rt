@@ -117,8 +117,8 @@ pub fn member_at<'a>(sets: &'a Sets, at: Index, place: u8) -> &'a [u8]
     sets.name_of(set_of(place), position_at(at, place))
 }
 
-// The number of the set over which the subscript at a place runs.
-fn set_of(place: u8) -> u8
+/// The number of the set over which the subscript at a place among the fields of `Index` runs.
+pub fn set_of(place: u8) -> u8
     ensures set { result ≡ set_of place }
     ensures listed { IsSet result }
 {
@@ -128,8 +128,8 @@ fn set_of(place: u8) -> u8
     }
 }
 
-// The subscript at a place.
-fn position_at(at: Index, place: u8) -> u16
+/// The subscript at a place among the fields of `Index`.
+pub fn position_at(at: Index, place: u8) -> u16
     ensures { result ≡ position_at at place }
 {
     let positions = [
