@@ -3,7 +3,7 @@ use Rattle.std.proofs.Common.{◌≡◌, ℕ, List, sym, subst}
 use Rattle.std.specs.Prelude.{◌||◌, not, true, IfErr, IfOk, IfSome}
 use Rattle.discount_factors.specs.Known.{Discounting}
 use Rattle.named_equations.specs.Instances.{stands_at}
-use Rattle.named_equations.specs.RegionFactors.{AreRegionFactors, places_of}
+use Rattle.named_equations.specs.RegionFactors.{AreRegionFactors}
 use Rattle.named_equations.specs.RowMeaning.{IsNamedRow}
 use Rattle.row_core.specs.Stops.{IsStop}
 use Rattle.row_core.specs.declared.place.Place.{Place}
