@@ -5,8 +5,8 @@ use Rattle.std.proofs.lemmas.List.FromFn.{get_or-range_with_len}
 use Rattle.std.specs.List.{range_with_len, position_or_len}
 use lib.Pointwise.{pointwise}
 use Rattle.row_core.specs.Words.{IsPlain, is_plain}
-use Rattle.row_core.specs.Kinds.{IsKind, Kind, kinds, bounded, word_of_kind}
-use Rattle.row_core.specs.Equations.{IsEquation, Equation, equations, named, word_of_equation}
+use Rattle.row_core.specs.Kinds.{IsKind, Kind, kinds, no_kind, word_of_kind}
+use Rattle.row_core.specs.Equations.{IsEquation, Equation, equations, no_equation, word_of_equation}
 
 -- the place of the first word that is this one
 abbrev place_of : List (List ℕ) → List ℕ → ℕ
@@ -38,7 +38,7 @@ equation_words = map (λ (equation : Equation). equation.word) equations
 pub word_of_kind_apart : (a b : ℕ) → IsKind a → IsKind b → word_of_kind a ≡ word_of_kind b → a ≡ b
 word_of_kind_apart a b h k same =
     let at : (x : ℕ) → x - 1 < 48 → get_or kind_words (x - 1) [] ≡ word_of_kind x =
-    λ x below. get_or-map (λ (kind : Kind). kind.word) kinds (x - 1) (bounded [] []) [] below in
+    λ x below. get_or-map (λ (kind : Kind). kind.word) kinds (x - 1) no_kind [] below in
     let in_a : a - 1 < 48 = omega arith in
     let in_b : b - 1 < 48 = omega arith in
     let place : a - 1 ≡ b - 1 = apart kind_words 48 refl refl (a - 1) (b - 1) [] in_a in_b (at a in_a ∙ same ∙ sym (at b in_b)) in
@@ -48,13 +48,13 @@ word_of_kind_apart a b h k same =
 pub word_of_kind_plain : (kind : ℕ) → IsKind kind → IsPlain (word_of_kind kind)
 word_of_kind_plain kind h =
     let inside : kind - 1 < 48 = omega arith in
-    rw (get_or-map (λ (k : Kind). k.word) kinds (kind - 1) (bounded [] []) [] inside) at (all_plain kind_words 48 refl refl (kind - 1) [] inside)
+    rw (get_or-map (λ (k : Kind). k.word) kinds (kind - 1) no_kind [] inside) at (all_plain kind_words 48 refl refl (kind - 1) [] inside)
 
 -- equations of one word are one equation
 pub word_of_equation_apart : (a b : ℕ) → IsEquation a → IsEquation b → word_of_equation a ≡ word_of_equation b → a ≡ b
 word_of_equation_apart a b h k same =
     let at : (x : ℕ) → x - 1 < 64 → get_or equation_words (x - 1) [] ≡ word_of_equation x =
-    λ x below. get_or-map (λ (equation : Equation). equation.word) equations (x - 1) (named [] []) [] below in
+    λ x below. get_or-map (λ (equation : Equation). equation.word) equations (x - 1) no_equation [] below in
     let in_a : a - 1 < 64 = omega arith in
     let in_b : b - 1 < 64 = omega arith in
     let place : a - 1 ≡ b - 1 = apart equation_words 64 refl refl (a - 1) (b - 1) [] in_a in_b (at a in_a ∙ same ∙ sym (at b in_b)) in
@@ -64,4 +64,4 @@ word_of_equation_apart a b h k same =
 pub word_of_equation_plain : (eq : ℕ) → IsEquation eq → IsPlain (word_of_equation eq)
 word_of_equation_plain eq h =
     let inside : eq - 1 < 64 = omega arith in
-    rw (get_or-map (λ (k : Equation). k.word) equations (eq - 1) (named [] []) [] inside) at (all_plain equation_words 64 refl refl (eq - 1) [] inside)
+    rw (get_or-map (λ (k : Equation). k.word) equations (eq - 1) no_equation [] inside) at (all_plain equation_words 64 refl refl (eq - 1) [] inside)

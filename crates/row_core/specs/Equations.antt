@@ -9,13 +9,13 @@ pub record Equation : Type 0 where
   pub word : List ℕ
   pub subscripts : List ℕ
 
--- an equation of this word, with these subscripts
-abbrev pub named : List ℕ → List ℕ → Equation
-named word subscripts = record { word = word; subscripts = subscripts }
-
 -- the equations, from number 1: the one table that the code has too
 abbrev pub equations : List Equation
-equations = map (λ (word, subscripts). named word.now subscripts.now) EQUATIONS
+equations = map (λ (word, subscripts). record { word = word.now; subscripts = subscripts.now }) EQUATIONS
+
+-- no equation
+abbrev pub no_equation : Equation
+no_equation = record { word = []; subscripts = [] }
 
 -- the number is that of an equation
 abbrev pub IsEquation : ℕ → Type 0
@@ -23,7 +23,7 @@ IsEquation eq = (1 ≤ eq) × (eq ≤ EQUATION_COUNT)
 
 -- the equation of a number
 abbrev pub equation_at : ℕ → Equation
-equation_at eq = slice_index_or equations (eq - 1) (named [] [])
+equation_at eq = slice_index_or equations (eq - 1) no_equation
 
 -- the word of an equation, as names of rows begin
 abbrev pub word_of_equation : ℕ → List ℕ

@@ -10,13 +10,13 @@ pub record Kind : Type 0 where
   pub subscripts : List ℕ
   pub free : Bool
 
--- a kind of variable that is at least 0
-abbrev pub bounded : List ℕ → List ℕ → Kind
-bounded word subscripts = record { word = word; subscripts = subscripts; free = false }
-
 -- the kinds, from number 1: the one table that the code has too
 abbrev pub kinds : List Kind
 kinds = map (λ (word, subscripts, free). record { word = word.now; subscripts = subscripts.now; free = free }) KINDS
+
+-- no kind
+abbrev pub no_kind : Kind
+no_kind = record { word = []; subscripts = []; free = false }
 
 -- the number is that of a kind
 abbrev pub IsKind : ℕ → Type 0
@@ -24,7 +24,7 @@ IsKind kind = (1 ≤ kind) × (kind ≤ KIND_COUNT)
 
 -- the kind of a number
 abbrev pub kind_at : ℕ → Kind
-kind_at kind = slice_index_or kinds (kind - 1) (bounded [] [])
+kind_at kind = slice_index_or kinds (kind - 1) no_kind
 
 -- the word of a kind, as names of variables begin
 abbrev pub word_of_kind : ℕ → List ℕ

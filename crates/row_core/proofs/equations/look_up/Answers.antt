@@ -1,9 +1,9 @@
-use Rattle.std.proofs.Common.{◌-◌, [], arith}
+use Rattle.std.proofs.Common.{◌-◌, arith}
 use Rattle.row_core.specs.Tables.{described_equation}
-use Rattle.row_core.specs.Equations.{equations, named}
+use Rattle.row_core.specs.Equations.{equations, no_equation}
 use Rattle.row_core.proofs.Tables.{described_entry}
 use Rattle.row_core.proofs.equations.look_up.Goals as goal
 
 pub returns : goal.returns
 returns c =
-    described_entry described_equation c.args.table.now equations (c.args.eq - 1) _ (named [] []) c.requires.tabled (omega arith)
+    described_entry described_equation c.args.table.now equations (c.args.eq - 1) _ no_equation c.requires.tabled (omega arith)

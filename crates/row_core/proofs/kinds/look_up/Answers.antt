@@ -1,9 +1,9 @@
-use Rattle.std.proofs.Common.{◌-◌, [], arith}
+use Rattle.std.proofs.Common.{◌-◌, arith}
 use Rattle.row_core.specs.Tables.{described_kind}
-use Rattle.row_core.specs.Kinds.{kinds, bounded}
+use Rattle.row_core.specs.Kinds.{kinds, no_kind}
 use Rattle.row_core.proofs.Tables.{described_entry}
 use Rattle.row_core.proofs.kinds.look_up.Goals as goal
 
 pub returns : goal.returns
 returns c =
-    described_entry described_kind c.args.table.now kinds (c.args.kind - 1) _ (bounded [] []) c.requires.tabled (omega arith)
+    described_entry described_kind c.args.table.now kinds (c.args.kind - 1) _ no_kind c.requires.tabled (omega arith)
