@@ -23,9 +23,9 @@ use Rattle.request_files.specs.Reading.{BeganOne, HasFailed, IsTooLong, part_of_
 use Rattle.request_files.specs.Sights.{Sight}
 use Rattle.request_files.specs.declared.whole.ReadEnd.{ReadEnd}
 use Rattle.request_files.specs.declared.whole.ReadEnd.TheVariants as ends
-use Rattle.request_answers.specs.Complete.{Completes}
-use Rattle.request_answers.specs.Due.{AskForEquations, Due, DueForFile}
-use Rattle.request_answers.specs.Mps.{DueForEquations}
+use Rattle.osemosys_run.specs.Complete.{Completes}
+use Rattle.osemosys_run.specs.Due.{AskForEquations, Due, DueForFile}
+use Rattle.osemosys_run.specs.Mps.{DueForEquations}
 use Rattle.osemosys_run.specs.Causes.{Caused, TellsEnd}
 use Rattle.osemosys_run.specs.ReadToEnd.{IsReadToEnd}
 use Rattle.osemosys_run.specs.Sending.{Delivers, Sent}

@@ -10,9 +10,9 @@ use Rattle.request_files.specs.Reading.{BeganOne, IsWholeFile, most_bytes}
 use Rattle.request_files.specs.Sights.{Sight}
 use Rattle.request_files.specs.declared.whole.ReadEnd.{ReadEnd}
 use Rattle.request_files.specs.declared.whole.ReadEnd.TheVariants.{NoFile, Failed, TooLong, Memory}
-use Rattle.request_answers.specs.Complete.{AreThere}
-use Rattle.request_answers.specs.Due.{DueForFile, DueForFiles}
-use Rattle.request_answers.proofs.FilesDue.{long_file, short_file}
+use Rattle.osemosys_run.specs.Complete.{AreThere}
+use Rattle.osemosys_run.specs.Due.{DueForFile, DueForFiles}
+use Rattle.osemosys_run.proofs.FilesDue.{long_file, short_file}
 use Rattle.osemosys_run.specs.Causes.{TellsEnd}
 
 -- ---- shelves

@@ -16,9 +16,9 @@ use Rattle.request_files.specs.Sights.{Sight}
 use Rattle.request_files.specs.declared.whole.ReadEnd.{ReadEnd}
 use Rattle.request_files.specs.declared.whole.ReadEnd.TheVariants as ends
 use Rattle.request_files.proofs.InTurnLaws.{moved-read}
-use Rattle.request_answers.specs.Complete.{AreThere, CanBeDone, Completes, IsEndOf}
-use Rattle.request_answers.specs.Due.{Due, DueForRequest, DueOverAsked, names_asked}
-use Rattle.request_answers.specs.Replies.{CanBeTold, IsOwn}
+use Rattle.osemosys_run.specs.Complete.{AreThere, CanBeDone, Completes, IsEndOf}
+use Rattle.osemosys_run.specs.Due.{Due, DueForRequest, DueOverAsked, names_asked}
+use Rattle.osemosys_run.specs.Replies.{CanBeTold, IsOwn}
 use Rattle.osemosys_run.specs.Causes.{Caused, CausedByRequest, IsAnswered, IsStopped, TellsEnd}
 use Rattle.osemosys_run.specs.ReadToEnd.{HasReadAll, IsReadAtWriteFault, IsReadToEnd, ReadsWhole, SpeaksOfFiles}
 use Rattle.osemosys_run.specs.Sending.{Delivers, IsBegun, Sent}

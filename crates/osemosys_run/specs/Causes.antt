@@ -7,9 +7,9 @@ use Rattle.command_answers.specs.declared.status.ReadStop.TheVariants as stops
 use Rattle.command_answers.specs.Lines.{stop_line, too_long_line}
 use Rattle.command_words.specs.declared.fault.WordFault.{WordFault}
 use Rattle.command_words.specs.Words.{Request, asked}
-use Rattle.request_answers.specs.Due.{DueOverAsked, names_asked}
-use Rattle.request_answers.specs.Replies.{CanBeSent, DueForReply, IsAsMade, IsForEquations, IsOwn}
-use Rattle.request_answers.specs.declared.reply.Reply.{Reply}
+use Rattle.osemosys_run.specs.Due.{DueOverAsked, names_asked}
+use Rattle.osemosys_run.specs.Replies.{CanBeSent, DueForReply, IsAsMade, IsForEquations, IsOwn}
+use Rattle.osemosys_run.specs.declared.reply.Reply.{Reply}
 use Rattle.request_files.specs.InTurn.{AreRead, StopsAt}
 use Rattle.request_files.specs.Sights.{Sight}
 use Rattle.request_files.specs.declared.whole.ReadEnd.{ReadEnd}

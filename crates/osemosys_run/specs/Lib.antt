@@ -2,3 +2,13 @@ pub mod Causes
 pub mod ReadToEnd
 pub mod Runs
 pub mod Sending
+pub mod Accepting
+pub mod Compared
+pub mod Complete
+pub mod Due
+pub mod Mps
+pub mod Promised
+pub mod Replies
+pub mod Requests
+pub mod Scenarios
+pub mod Warned

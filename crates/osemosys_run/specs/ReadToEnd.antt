@@ -5,8 +5,8 @@ use Rattle.io_edges.specs.Edges.{Lacks}
 use Rattle.command_answers.specs.declared.status.Status.{Status}
 use Rattle.command_answers.specs.declared.status.Status.TheVariants.{Refused, Words, ReadFault, WriteFault, Memory}
 use Rattle.command_answers.specs.declared.status.Refusal.TheVariants.{TooLong}
-use Rattle.request_answers.specs.Complete.{AreThere}
-use Rattle.request_answers.specs.Due.{names_asked}
+use Rattle.osemosys_run.specs.Complete.{AreThere}
+use Rattle.osemosys_run.specs.Due.{names_asked}
 use Rattle.request_files.specs.InTurn.{AreMoved}
 use Rattle.request_files.specs.Reading.{HasNothingLeft}
 use Rattle.request_files.specs.Sights.{Sight}

@@ -5,8 +5,8 @@ use Rattle.io_edges.specs.Told.{WhereTold}
 use Rattle.command_answers.specs.declared.status.ReadStop.{ReadStop}
 use Rattle.command_answers.specs.declared.status.Status.{Status}
 use Rattle.osemosys_run.specs.Causes.{Caused}
-use Rattle.request_answers.specs.Complete.{Completes}
-use Rattle.request_answers.specs.Due.{AskForEquations, Due}
+use Rattle.osemosys_run.specs.Complete.{Completes}
+use Rattle.osemosys_run.specs.Due.{AskForEquations, Due}
 use Rattle.request_files.specs.Sights.{Sight}
 use Rattle.osemosys_run.specs.ReadToEnd.{IsReadToEnd, ReadsWhole}
 use Rattle.osemosys_run.specs.Sending.{Delivers, Sent}

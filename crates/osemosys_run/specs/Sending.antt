@@ -5,7 +5,7 @@ use Rattle.io_edges.specs.Outputs.{Output, Took, TookPrefix, output}
 use Rattle.io_edges.specs.declared.traits.Sink.{Ghosts}
 use Rattle.command_answers.specs.declared.status.Status.{Status}
 use Rattle.command_answers.specs.declared.status.Status.TheVariants.{Done, WriteFault, Memory}
-use Rattle.request_answers.specs.Replies.{CanBeTold}
+use Rattle.osemosys_run.specs.Replies.{CanBeTold}
 
 -- what is seen of a sink: what was written there, where it tells that, and what it took, which it always tells; and its count of faults
 pub record Sent : Type 0 where

@@ -1,13 +1,13 @@
 // What is due is sent: an answer, or the equations of a model.
 ghost use Rattle.std.specs.Prelude.{◌≤◌};
 ghost use Rattle.osemosys_run.specs.Sending.{Delivers, sent};
-ghost use Rattle.request_answers.specs.Replies.{CanBeSent, DueForReply, IsAsMade};
+ghost use Rattle.osemosys_run.specs.Replies.{CanBeSent, DueForReply, IsAsMade};
 
 use crate::equations::write_equations;
+use crate::reply::Reply;
 use crate::sending::send_answer;
 use command_answers::Status;
 use io_edges::Sink;
-use request_answers::Reply;
 use std::alloc::Global;
 
 /// Writes what is due.

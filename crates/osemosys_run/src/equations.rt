@@ -12,8 +12,8 @@ ghost use Rattle.row_core.specs.Sources.{AreInOrder};
 ghost use Rattle.command_answers.specs.BookFails.{TellsFail};
 ghost use Rattle.command_answers.specs.declared.status.Status.{Status};
 ghost use Rattle.osemosys_run.specs.Sending.{Delivers, sent};
-ghost use Rattle.request_answers.specs.Mps.{DueForEquations};
-ghost use Rattle.request_answers.specs.Replies.{IsTold};
+ghost use Rattle.osemosys_run.specs.Mps.{DueForEquations};
+ghost use Rattle.osemosys_run.specs.Replies.{IsTold};
 
 use crate::sending::send_answer;
 use command_answers::{Status, refuse_book};

@@ -4,7 +4,7 @@ ghost use Rattle.command_answers.specs.Lines.{stop_line, too_long_line};
 ghost use Rattle.command_words.specs.Commands.{request_of};
 ghost use Rattle.command_words.specs.Words.{names_of};
 ghost use Rattle.osemosys_run.specs.Causes.{TellsEnd};
-ghost use Rattle.request_answers.specs.Requests.{marks_for};
+ghost use Rattle.osemosys_run.specs.Requests.{marks_for};
 ghost use Rattle.request_files.specs.Marked.{marks_of, names_of as names_asked};
 
 use command_answers::{Answer, ReadStop, Refusal, Status, stop_line, too_long_line};

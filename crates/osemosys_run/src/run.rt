@@ -43,31 +43,35 @@ ghost use Rattle.solve_command.specs.Promises.{ArePromised};
 ghost use Rattle.table_command.specs.Tables.{DueForTable, form_of};
 ghost use Rattle.request_files.specs.Reading.{IsSameShelf};
 ghost use Rattle.request_files.specs.Sights.{seen};
-ghost use Rattle.request_answers.specs.Accepting.{AcceptsEnd, ProvesEnd};
-ghost use Rattle.request_answers.specs.Compared.{DueForCompared, IsPromisedDifference};
-ghost use Rattle.request_answers.specs.Complete.{Completes};
-ghost use Rattle.request_answers.specs.Due.{AskForEquations, Due};
-ghost use Rattle.request_answers.specs.Mps.{WritesEquations};
-ghost use Rattle.request_answers.specs.Promised.{IsPromisedTable};
-ghost use Rattle.request_answers.specs.Requests.{IsInRange};
-ghost use Rattle.request_answers.specs.Warned.{IsWarned};
+ghost use Rattle.osemosys_run.specs.Accepting.{AcceptsEnd, ProvesEnd};
+ghost use Rattle.osemosys_run.specs.Compared.{DueForCompared, IsPromisedDifference};
+ghost use Rattle.osemosys_run.specs.Complete.{Completes};
+ghost use Rattle.osemosys_run.specs.Due.{AskForEquations, Due};
+ghost use Rattle.osemosys_run.specs.Mps.{WritesEquations};
+ghost use Rattle.osemosys_run.specs.Promised.{IsPromisedTable};
+ghost use Rattle.osemosys_run.specs.Requests.{IsInRange};
+ghost use Rattle.osemosys_run.specs.Warned.{IsWarned};
 ghost use Rattle.osemosys_run.specs.Causes.{Caused, IsReplyFor};
 ghost use Rattle.osemosys_run.specs.ReadToEnd.{IsReadToEnd, ReadsWhole};
 ghost use Rattle.osemosys_run.specs.Runs.{IsRun};
 ghost use Rattle.osemosys_run.specs.Sending.{Delivers, sent};
 
+use crate::accepting::accepting_laws;
+use crate::answering::answer;
+use crate::compare_laws::difference_laws;
+use crate::completing::completing_laws;
 use crate::delivering::deliver;
 use crate::files::{files_of, refuse_file};
+use crate::mps_program::mps_laws;
+use crate::promised::promised_laws;
+use crate::reply::Reply;
+use crate::warned::warned_laws;
 use call_stages::{Stage, Unwatched, Watcher};
 use command_answers::{Status, acceptance_laws, refuse_words};
 use command_words::{Command, read_command, spelled_parts};
 use io_edges::{Shelf, Sink};
 use mathprog_data::verdict_laws;
 use plan_quantities::laws::quantity_laws;
-use request_answers::{
-    Reply, accepting_laws, answer, completing_laws, difference_laws, mps_laws, promised_laws,
-    warned_laws,
-};
 use request_files::read_files;
 use solve_command::promise_laws;
 use std::alloc::{AllocError, Global};

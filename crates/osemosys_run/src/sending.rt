@@ -3,7 +3,7 @@ ghost use Rattle.std.specs.Prelude.{◌≤◌, OnOk, OnErr};
 ghost use Rattle.io_edges.specs.Count.{Rose};
 ghost use Rattle.io_edges.specs.Outputs.{Took, TookPrefix};
 ghost use Rattle.osemosys_run.specs.Sending.{Delivers, sent};
-ghost use Rattle.request_answers.specs.Replies.{CanBeTold, IsTold};
+ghost use Rattle.osemosys_run.specs.Replies.{CanBeTold, IsTold};
 
 use command_answers::{Answer, Status};
 use io_edges::{Failed, Sink};

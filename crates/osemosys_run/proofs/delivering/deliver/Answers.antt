@@ -1,7 +1,7 @@
 use Rattle.std.proofs.Common.{sym, subst}
 use Rattle.osemosys_run.specs.Sending.{Delivers, sent}
-use Rattle.request_answers.specs.Replies.{CanBeSent, DueForReply, IsAsMade}
-use Rattle.request_answers.specs.declared.reply.Reply.{Reply}
+use Rattle.osemosys_run.specs.Replies.{CanBeSent, DueForReply, IsAsMade}
+use Rattle.osemosys_run.specs.declared.reply.Reply.{Reply}
 use Rattle.osemosys_run.proofs.delivering.deliver.Goals as goal
 
 pub send_answer-requires : goal.send_answer-requires

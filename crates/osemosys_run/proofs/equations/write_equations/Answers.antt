@@ -3,9 +3,9 @@ use Rattle.std.specs.Prelude.{⊤}
 use Rattle.model_sets.specs.Data.{AreSameData, Data}
 use Rattle.command_answers.specs.declared.status.Status.{Status}
 use Rattle.osemosys_run.specs.Sending.{sent}
-use Rattle.request_answers.specs.Mps.{DueForEquations}
+use Rattle.osemosys_run.specs.Mps.{DueForEquations}
 use Rattle.osemosys_run.proofs.RunLaws.{delivers-weaker}
-use Rattle.request_answers.proofs.SameEquations.{equations_carry}
+use Rattle.osemosys_run.proofs.SameEquations.{equations_carry}
 use Rattle.osemosys_run.proofs.equations.write_equations.Goals as goal
 
 pub returns-clause-delivers : goal.returns-clause-delivers

@@ -9,8 +9,8 @@ use Rattle.command_answers.specs.declared.status.Status.{Status}
 use Rattle.command_answers.specs.declared.status.Status.TheVariants.{Done}
 use Rattle.command_answers.proofs.BookEnds.{refused_told}
 use Rattle.osemosys_run.specs.Sending.{sent}
-use Rattle.request_answers.specs.Mps.{DueForEquations}
-use Rattle.request_answers.specs.Replies.{IsTold}
+use Rattle.osemosys_run.specs.Mps.{DueForEquations}
+use Rattle.osemosys_run.specs.Replies.{IsTold}
 use Rattle.osemosys_run.proofs.RunLaws.{delivers-weaker}
 use Rattle.osemosys_run.proofs.equations.write_model.Goals as goal
 

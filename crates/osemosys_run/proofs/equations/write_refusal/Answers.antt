@@ -4,10 +4,10 @@ use Rattle.command_answers.specs.BookFails.{TellsFail}
 use Rattle.command_answers.specs.declared.status.Status.{Status}
 use Rattle.row_book.specs.declared.fail.BookFail.{BookFail}
 use Rattle.row_book.specs.declared.fail.BookFail.TheVariants as fails
-use Rattle.request_answers.specs.Replies.{CanBeTold}
+use Rattle.osemosys_run.specs.Replies.{CanBeTold}
 use Rattle.osemosys_run.specs.Sending.{sent}
-use Rattle.request_answers.specs.Replies.{IsTold}
-use Rattle.request_answers.proofs.ReplyLaws.{told_so}
+use Rattle.osemosys_run.specs.Replies.{IsTold}
+use Rattle.osemosys_run.proofs.ReplyLaws.{told_so}
 use Rattle.osemosys_run.proofs.RunLaws.{delivers-weaker}
 use Rattle.osemosys_run.proofs.equations.write_refusal.Goals as goal
 

@@ -2,9 +2,9 @@ use Rattle.std.proofs.Common.{◌≡◌, IsSome, Some, arith, map, List, ℕ, Re
 use Rattle.std.specs.String.{string_bytes}
 use Rattle.command_words.specs.Words.{Request, asked}
 use Rattle.request_files.specs.Sights.{Sight, seen}
-use Rattle.request_answers.specs.Due.{AskForEquations, Due}
+use Rattle.osemosys_run.specs.Due.{AskForEquations, Due}
 use Rattle.io_edges.specs.Count.{Rose}
-use Rattle.request_answers.specs.Replies.{DueForReply, IsAsMade, IsForEquations}
+use Rattle.osemosys_run.specs.Replies.{DueForReply, IsAsMade, IsForEquations}
 use Rattle.osemosys_run.specs.Causes.{Caused}
 use Rattle.osemosys_run.specs.Sending.{Sent, sent}
 use Rattle.osemosys_run.proofs.RunLaws.{delivered-complete, delivered-failed_read, delivered-failed_write, delivered-read, delivered-whole, delivers-weaker, due-caused}

@@ -5,10 +5,10 @@ use Rattle.command_words.specs.Commands.{request_of, request_of_result}
 use Rattle.command_words.specs.Words.{Request, asked}
 use Rattle.command_words.specs.declared.fault.WordFault.{WordFault}
 use Rattle.request_files.specs.Sights.{seen}
-use Rattle.request_answers.specs.Due.{DueOverAsked}
-use Rattle.request_answers.specs.Replies.{CanBeTold, IsOwn}
-use Rattle.request_answers.specs.declared.reply.Reply.TheVariants.{Told}
-use Rattle.request_answers.proofs.ReplyLaws.{told_so}
+use Rattle.osemosys_run.specs.Due.{DueOverAsked}
+use Rattle.osemosys_run.specs.Replies.{CanBeTold, IsOwn}
+use Rattle.osemosys_run.specs.declared.reply.Reply.TheVariants.{Told}
+use Rattle.osemosys_run.proofs.ReplyLaws.{told_so}
 use Rattle.osemosys_run.specs.Causes.{IsReplyFor}
 use Rattle.osemosys_run.proofs.AskedRanges.{asked-in-range}
 use Rattle.osemosys_run.proofs.run.perform.Goals as goal

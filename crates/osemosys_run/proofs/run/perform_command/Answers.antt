@@ -13,9 +13,9 @@ use Rattle.request_files.specs.declared.whole.ReadEnd.{ReadEnd}
 use Rattle.request_files.specs.declared.whole.ReadEnd.TheVariants.{NoFile, Failed, TooLong, Memory}
 use Rattle.request_files.proofs.InTurnLaws.{all-short, as-many, stops-within}
 use Rattle.request_files.proofs.MarkedLaws.{found-as}
-use Rattle.request_answers.specs.Replies.{CanBeTold}
-use Rattle.request_answers.specs.Requests.{marks_for}
-use Rattle.request_answers.proofs.ReplyLaws.{told_so}
+use Rattle.osemosys_run.specs.Replies.{CanBeTold}
+use Rattle.osemosys_run.specs.Requests.{marks_for}
+use Rattle.osemosys_run.proofs.ReplyLaws.{told_so}
 use Rattle.osemosys_run.specs.Causes.{TellsEnd}
 use Rattle.osemosys_run.proofs.run.perform_command.Goals as goal
 

@@ -1,0 +1,68 @@
+-- Two proofs that can be accepted are compared: what is due for them is that.
+use Rattle.std.proofs.Common.{◌≡◌, ◌⊎◌, ℕ, inl, inr, List, subst}
+use Rattle.model_sets.specs.Data.{Data}
+use Rattle.row_core.specs.declared.RowName.{RowName}
+use Rattle.row_core.specs.declared.Var.{Var}
+use Rattle.exact_num.specs.Rational.{Rational}
+use Rattle.named_equations.specs.Existence.{all_variables}
+use Rattle.named_equations.specs.Instances.{instances}
+use Rattle.plan_files.specs.Files.{records_of}
+use Rattle.proof_files.specs.declared.proof.Proof.{Proof}
+use Rattle.proof_files.specs.declared.proof.Proof.TheVariants.{Optimum}
+use Rattle.proof_files.specs.Proofs.{IsProof}
+use Rattle.command_words.specs.declared.command.CompareShow.{CompareShow}
+use Rattle.command_answers.specs.MadeBooks.{HasNoRows}
+use Rattle.command_answers.specs.MadeRows.{IsMadeFor}
+use Rattle.command_answers.specs.declared.status.Status.{Status}
+use Rattle.command_answers.specs.declared.status.Status.TheVariants.{Done}
+use Rattle.compare_command.specs.Compare.{DueOfCheck, IsJudged, IsRefused}
+use Rattle.compare_command.specs.Compared.{ComparesProofs, Judged}
+use Rattle.compare_command.specs.declared.scenarios.Which.{Which}
+use Rattle.osemosys_run.specs.Compared.{CheckedBy, DueForCompared}
+use Rattle.osemosys_run.specs.Complete.{ProvesOptimum}
+use Rattle.osemosys_run.proofs.Completeness.{Laws, no_rows, over_accepted}
+use Rattle.osemosys_run.proofs.ShownCompleteness.{file_accepted, same}
+
+-- ---- one scenario
+
+module _ (laws : Laws) (gap places : ℕ) (bytes proof_bytes : List ℕ) (can : ProvesOptimum gap places bytes proof_bytes) where
+  -- what `check` says over the data is that it accepts the proof
+  over_data : (status : Status) (text : List ℕ)
+      → IsMadeFor places can.d (λ rows. CheckedBy places gap proof_bytes can.d rows status text) ⊎ HasNoRows places can.d status text → status ≡ Done
+  over_data status text (inl made) = file_accepted laws gap places bytes proof_bytes can status text made.rows made.are_rows made.due
+  over_data status text (inr none) = no_rows laws places can.d can.made status text none
+
+  said_done : (status : Status) (text : List ℕ) → DueOfCheck places (CheckedBy places gap proof_bytes) bytes status text → status ≡ Done
+  said_done status text due =
+      over_data status text
+      (over_accepted laws (λ rounded d status text. IsMadeFor places d (λ rows. CheckedBy places gap proof_bytes d rows status text) ⊎ HasNoRows places d status text)
+      bytes can.d status text can.accepted due)
+
+  -- so it isn't refused
+  not_refused : (which : Which) (status : Status) (text : List ℕ) → IsRefused places (CheckedBy places gap proof_bytes) bytes which status text → ⊥
+  not_refused which status text refused = refused.not_done (said_done status refused.said refused.due)
+
+  -- and the proof is the one that the files have
+  optimum_is : (one : Judged) → IsJudged places (CheckedBy places gap proof_bytes) bytes proof_bytes one → one.proof ≡ Optimum can.plan can.multipliers
+  optimum_is one judged =
+      let data_is : one.data_of ≡ can.d = laws.one_data bytes one.data_of can.d judged.accepted can.accepted in
+      laws.one_proof can.d.sets (all_variables can.d) (instances can.d) (records_of proof_bytes) one.proof (Optimum can.plan can.multipliers)
+      (subst (λ (d : Data). IsProof d.sets (all_variables d) (instances d) (records_of proof_bytes) one.proof) data_is judged.told) can.told
+
+-- ---- both
+
+of_optima : (show : CompareShow) (one two : Judged) (plan : List (Var × Rational)) (multipliers : List (RowName × Rational)) (plan2 : List (Var × Rational)) (multipliers2 : List (RowName × Rational)) (status : Status) (text : List ℕ)
+    → one.proof ≡ Optimum plan multipliers → two.proof ≡ Optimum plan2 multipliers2 → ComparesProofs show one.proof two.proof one two status text → status ≡ Done
+of_optima show one two plan multipliers plan2 multipliers2 status text is is2 compares =
+    let first = subst (λ (p : Proof). ComparesProofs show p two.proof one two status text) is compares in
+    let both = subst (λ (p : Proof). ComparesProofs show (Optimum plan multipliers) p one two status text) is2 first in
+    both.status_is
+
+module _ (laws : Laws) (gap places : ℕ) (show : CompareShow) (bytes proof_bytes bytes2 proof_bytes2 : List ℕ) (can : ProvesOptimum gap places bytes proof_bytes) (can2 : ProvesOptimum gap places bytes2 proof_bytes2)
+    (status : Status) (text : List ℕ) where
+  pub compared : DueForCompared places gap show bytes proof_bytes bytes2 proof_bytes2 status text → status ≡ Done
+  compared (inl refused) = absurd (not_refused laws gap places bytes proof_bytes can _ status text refused)
+  compared (inr (inl second)) = absurd (not_refused laws gap places bytes2 proof_bytes2 can2 _ status text second.refused)
+  compared (inr (inr both)) =
+      of_optima show both.one both.two can.plan can.multipliers can2.plan can2.multipliers status text
+      (optimum_is laws gap places bytes proof_bytes can both.one both.first) (optimum_is laws gap places bytes2 proof_bytes2 can2 both.two both.second) both.compares

@@ -1,0 +1,166 @@
+-- The multipliers of a proof that `check` accepts prove their bound, and so each price that `table` writes of them is promised.
+use Rattle.std.proofs.Common.{◌≡◌, ◌≢◌, ℕ, ℤ, pos, ◌<◌, List, [], ◌∷◌, ◌++◌, Option, None, Some, inl, inr, sym, ◌∙◌, ap, subst, refl, arith, rules}
+use Rattle.std.specs.Prelude.{◌<ℤ◌, unsigned_abs}
+use Rattle.std.specs.List.{AllByRecursion}
+use Rattle.std.proofs.lemmas.Int.{ints}
+use Rattle.exact_num.specs.Rational.{Rational}
+use Rattle.exact_num.specs.Steps.{first_wide}
+use Rattle.exact_num.proofs.RationalLaws.{lowest-IsLowest}
+use Rattle.scaled_decimals.specs.FractionText.{bottom_of, top_of}
+use Rattle.model_sets.specs.Data.{Data}
+use Rattle.row_core.specs.declared.Row.{Row}
+use Rattle.row_core.specs.declared.RowName.{RowName}
+use Rattle.row_core.specs.declared.Var.{Var}
+use Rattle.row_core.specs.declared.place.Place.{Place}
+use Rattle.row_core.specs.Order.{row_name_cmp}
+use Rattle.row_core.specs.Plans.{value_in}
+use Rattle.row_core.specs.Values.{IsOver}
+use Rattle.named_equations.specs.Existence.{all_variables}
+use Rattle.named_equations.specs.Instances.{instances}
+use Rattle.row_book.specs.Books.{AreRowsOf}
+use Rattle.certificate_checker.specs.Certificates.{AreMultipliersOver, Proves, bound_of}
+use Rattle.certificate_checker.specs.Conditions.{AllPass, Condition, first_failing, steps}
+use Rattle.certificate_checker.specs.Costs.{model_cost}
+use Rattle.certificate_checker.specs.Denominators.{AreOverSome, HasPositiveBottom}
+use Rattle.certificate_checker.specs.Gaps.{gap_condition}
+use Rattle.certificate_checker.specs.MultiplierChecks.{bound_conditions}
+use Rattle.certificate_checker.specs.PlanChecks.{plan_conditions}
+use Rattle.certificate_checker.specs.Reasons.{Reason}
+use Rattle.certificate_checker.proofs.ConditionLaws.{fails_before, passed_first, wide_before}
+use Rattle.certificate_checker.proofs.MultiplierMeaning.{bound-over, proves_from}
+use Rattle.plan_files.specs.Answers.{AreGiven}
+use Rattle.plan_files.specs.Files.{Fields, GivesValue, record_of, records_of}
+use Rattle.plan_files.specs.Records.{row_fields}
+use Rattle.proof_files.specs.declared.proof.Proof.{Proof}
+use Rattle.proof_files.specs.declared.proof.Proof.TheVariants.{Optimum, Refutation, Descent}
+use Rattle.proof_files.specs.Proofs.{IsProof}
+use Rattle.plan_quantities.specs.RowPrices.{IsRowPromised}
+use Rattle.plan_tables.specs.declared.shown.NumberForm.{NumberForm}
+use Rattle.price_tables.specs.declared.shown.PriceTable.{PriceTable}
+use Rattle.price_tables.specs.PriceAmounts.{row_price}
+use Rattle.price_tables.specs.PricedRows.{price_table_named, priced_rows}
+use Rattle.command_answers.specs.declared.status.Status.TheVariants.{Done}
+use Rattle.command_answers.specs.ShownProofs.{DueOverRows}
+use Rattle.check_command.specs.Check.{DueForPlan, multiplier_bound, plan_cost}
+use Rattle.check_command.specs.CheckProof.{DueForProofFile, DueForProofTold}
+use Rattle.check_command.proofs.AcceptedProofs.{ProofLaws}
+use Rattle.table_command.specs.declared.shown.Shown.{Shown}
+use Rattle.table_command.specs.declared.shown.Shown.TheVariants.{Prices}
+use Rattle.table_command.specs.ShownTables.{or_values, shown_named}
+use Rattle.table_command.specs.Tables.{DueForKnown, DueForTable, ShowsProof}
+use Rattle.osemosys_run.specs.Promised.{ArePricesPromised, IsPromisedTable}
+
+-- the law on a table of prices
+abbrev pub TableLaw : Type 0
+TableLaw =
+    (places : ℕ) (d : Data) (rows : List Row) (s : ℕ) (y : RowName → ℤ) (multipliers : List (RowName × Rational)) (bound : Rational) (table : PriceTable)
+    → AreRowsOf places d (instances d) rows → Proves model_cost rows (all_variables d) s y
+    → AreMultipliersOver s y multipliers → IsOver (pos s) bound (bound_of y rows)
+    → AllByRecursion (λ e. IsRowPromised places d e.0.name e.1 bound (row_price multipliers e.0 e.1)) (priced_rows table multipliers rows)
+
+-- ---- conditions after others
+
+-- where all of them pass, the first ones do, and the others
+pass-parts : (cs ds : List Condition) → AllPass (cs ++ ds) → AllPass cs × AllPass ds
+pass-parts cs ds h = cases (first_failing cs) refl (first_wide (steps cs)) refl
+  where
+    cases : (first : Option Reason) → first_failing cs ≡ first → (wide : Option Place) → first_wide (steps cs) ≡ wide → AllPass cs × AllPass ds
+    cases first is (Some place) wide = absurd (cc (sym h.fit ∙ wide_before cs ds place wide))
+    cases (Some other) is None fit = absurd (cc (sym h.hold ∙ (fails_before cs ds other is).1))
+    cases None is None fit =
+        let pass : AllPass cs = record { fit = fit; hold = is } in
+        let so_far = passed_first cs ds pass in
+        (pass, record { fit = sym so_far.wide ∙ h.fit; hold = sym so_far.failing ∙ h.hold })
+
+-- ---- multipliers
+
+-- a value that a record gives has a denominator above 0
+given_positive : (found : Option Fields) (x : Rational) → GivesValue found (Some x) → pos 0 <ℤ x.bottom
+given_positive None x h = absurd (cc h)
+given_positive (Some r) x (y, given, (f, spelled, fit, low)) =
+    let same : x ≡ y = cc given in
+    let nonzero : bottom_of f ≢ pos 0 = λ e. spelled.nonzero (ap unsigned_abs e) in
+    subst (λ (v : Rational). pos 0 <ℤ v.bottom) (sym (same ∙ low)) (lowest-IsLowest (top_of f) (bottom_of f) nonzero).positive
+
+-- and so have all that the records give
+all_positive : {K : Type 0} (name_fields : K → Fields) (rows : List Fields) (told : List (K × Rational)) → AreGiven name_fields rows told → AllByRecursion HasPositiveBottom told
+all_positive name_fields rows [] given = tt
+all_positive name_fields rows (e ∷ told) given = (given_positive (record_of rows (name_fields e.0)) e.1 given.0, all_positive name_fields rows told given.1)
+
+positive_of : (s : ℕ) → 0 < s → pos 0 <ℤ pos s
+positive_of s h = omega (arith, ints)
+
+-- the law on lists of fractions
+abbrev pub DenominatorLaw : Type 0
+DenominatorLaw = (entries : List (RowName × Rational)) → AllByRecursion HasPositiveBottom entries → AreOverSome row_name_cmp entries
+
+module _ (laws : ProofLaws) (law : TableLaw) (denominators : DenominatorLaw) (places : ℕ) (d : Data) (bytes : List ℕ) (gap : ℕ) where
+  abbrev vars : List Var
+  vars = all_variables d
+
+  -- multipliers whose conditions pass prove their bound, and so promise each price
+  promised-by : (rows : List Row) (multipliers : List (RowName × Rational)) (table : PriceTable) → AreRowsOf places d (instances d) rows → AllPass (bound_conditions model_cost rows vars multipliers)
+      → (s : ℕ) (y : RowName → ℤ) → AreMultipliersOver s y multipliers → ArePricesPromised places d rows multipliers table
+  promised-by rows multipliers table are pass s y over =
+      let value = value_in row_name_cmp multipliers in
+      let positive : pos 0 <ℤ pos s = positive_of s over.0 in
+      let each : (name : RowName) → IsOver (pos s) (value name) (y name) = over.1 in
+      let hold : first_failing (bound_conditions model_cost rows vars multipliers) ≡ None = pass.hold in
+      let proves : Proves model_cost rows vars s y = search (rules, proves_from) in
+      law places d rows s y multipliers (multiplier_bound rows multipliers) table are proves over
+      (bound-over s y value (positive_of s over.0) over.1 rows)
+
+  -- the conditions of an accepted optimum pass, among them those of its multipliers
+  accepted-pass : (rows : List Row) (plan : List (Var × Rational)) (multipliers : List (RowName × Rational)) (said : List ℕ) → DueForPlan places d rows plan (Some multipliers) gap Done said
+      → AllPass (bound_conditions model_cost rows vars multipliers)
+  accepted-pass rows plan multipliers said (inl accepted) =
+      let after = pass-parts (plan_conditions model_cost rows vars plan) (bound_conditions model_cost rows vars multipliers ++ gap_condition (plan_cost d plan) (multiplier_bound rows multipliers) gap ∷ []) accepted.pass in
+      (pass-parts (bound_conditions model_cost rows vars multipliers) (gap_condition (plan_cost d plan) (multiplier_bound rows multipliers) gap ∷ []) after.1).0
+  accepted-pass rows plan multipliers said (inr (inl rejected)) = absurd (cc rejected.status_is)
+  accepted-pass rows plan multipliers said (inr (inr wide)) = absurd (cc wide.status_is)
+
+  -- of a file that is accepted, what is due is due of what it tells
+  told-so : (rows : List Row) (proof : Proof) (said : List ℕ) → IsProof d.sets vars (instances d) (records_of bytes) proof → DueForProofFile places d rows bytes gap Done said
+      → DueForProofTold places d rows gap proof Done said
+  told-so rows proof said is (inl refused) = absurd (laws.proof_or_fault d.sets vars (instances d) (records_of bytes) proof refused.fault is refused.first)
+  told-so rows proof said is (inr read) =
+      subst (λ (p : Proof). DueForProofTold places d rows gap p Done said) (laws.one_proof d.sets vars (instances d) (records_of bytes) read.0 proof read.1 is) read.2
+
+  -- a table of prices that is shown of a proof is that of its multipliers
+  of-proof : (rows : List Row) (table : PriceTable) (form : NumberForm) (text : List ℕ) (proof : Proof) (said : List ℕ) → AreRowsOf places d (instances d) rows
+      → IsProof d.sets vars (instances d) (records_of bytes) proof → DueForProofTold places d rows gap proof Done said → ShowsProof d.sets rows (Prices table) form proof Done text
+      → IsPromisedTable places d bytes table form text
+  of-proof rows table form text (Optimum plan multipliers) said are told due shows =
+      let some = denominators multipliers (all_positive (row_fields d.sets) told.rows multipliers told.told.3.values) in
+      record {
+        rows = rows;
+        plan = plan;
+        multipliers = multipliers;
+        are_rows = are;
+        told = told;
+        text_is = shows.1;
+        promised = promised-by rows multipliers table are (accepted-pass rows plan multipliers said due) some.over some.number (some.positive, some.each);
+      }
+  of-proof rows table form text (Refutation multipliers) said are told due shows = absurd (cc shows.0)
+  of-proof rows table form text (Descent plan direction) said are told due shows = absurd (cc shows.0)
+
+  over-rows : (rows : List Row) (table : PriceTable) (form : NumberForm) (text : List ℕ) → AreRowsOf places d (instances d) rows
+      → DueOverRows (DueForProofFile places d rows bytes gap) bytes (λ said. ShowsProof d.sets rows (Prices table) form) d Done text → IsPromisedTable places d bytes table form text
+  over-rows rows table form text are (inl checked) = absurd (checked.not_done refl)
+  over-rows rows table form text are (inr shown) = of-proof rows table form text shown.proof shown.said are shown.told (told-so rows shown.proof shown.said shown.told shown.accepted) shown.shows
+
+  of-known : (table : PriceTable) (form : NumberForm) (text : List ℕ) → DueForKnown places (λ rows. DueForProofFile places d rows bytes gap) bytes (Prices table) form d Done text
+      → IsPromisedTable places d bytes table form text
+  of-known table form text (inl made) = over-rows made.rows table form text made.are_rows made.due
+  of-known table form text (inr (inl uncertified)) = absurd (cc uncertified.status_is)
+  of-known table form text (inr (inr large)) = absurd (cc large.status_is)
+
+  -- What is promised of a table by its name.
+  pub table-promised : (name : List ℕ) (form : NumberForm) (table : PriceTable) (text : List ℕ) → price_table_named name ≡ Some table
+      → DueForTable places (λ rows. DueForProofFile places d rows bytes gap) bytes name form d Done text → IsPromisedTable places d bytes table form text
+  table-promised name form table text named (inl unknown) = absurd (cc unknown.status_is)
+  table-promised name form table text named (inr known) =
+      let priced : shown_named name ≡ Some (Prices table) = ap (or_values name) named in
+      let same : Some known.0 ≡ Some (Prices table) = sym known.1 ∙ priced in
+      let is : known.0 ≡ Prices table = cc in
+      of-known table form text (subst (λ (shown : Shown). DueForKnown places (λ rows. DueForProofFile places d rows bytes gap) bytes shown form d Done text) is known.2)

@@ -1,0 +1,155 @@
+-- What `solve` writes to prove an end is accepted by `check`.
+use Rattle.std.proofs.Common.{◌≡◌, ℕ, List, [], inl, inr, refl, sym, ◌∙◌, subst}
+use Rattle.std.specs.Prelude.{codes}
+use Rattle.model_sets.specs.Data.{Data}
+use Rattle.mps_writer.specs.MpsText.{line}
+use Rattle.row_core.specs.declared.Row.{Row}
+use Rattle.row_core.specs.declared.RowName.{RowName}
+use Rattle.row_core.specs.declared.place.Place.{Place}
+use Rattle.named_equations.specs.Existence.{all_variables}
+use Rattle.named_equations.specs.Instances.{instances}
+use Rattle.row_book.specs.Books.{AreRowsOf, CanBeMade, HasStopped}
+use Rattle.row_book.specs.declared.fail.BookFail.{BookFail}
+use Rattle.row_book.specs.declared.fail.BookFail.TheVariants as book
+use Rattle.simplex_core.specs.declared.stops.Stop.{Stop}
+use Rattle.command_answers.specs.declared.status.Status.{Status}
+use Rattle.command_answers.specs.declared.status.Status.TheVariants.{Done, Infeasible, Refused, Unbounded, Uncertified}
+use Rattle.command_answers.specs.declared.status.Refusal.{Refusal}
+use Rattle.command_answers.specs.MadeBooks.{HasNoRows}
+use Rattle.command_words.specs.declared.command.SolveMethod.{SolveMethod}
+use Rattle.command_words.specs.declared.command.SolveMethod.TheVariants.{Exact, Rounded}
+use Rattle.check_command.specs.CheckProof.{DueForProof, DueForProofFile}
+use Rattle.check_command.proofs.AcceptedProofs.{ProofLaws, descent-accepted, optimum-accepted, refutation-accepted}
+use Rattle.solve_command.specs.declared.solve.Shown.TheVariants.{Proof}
+use Rattle.solve_command.specs.declared.solve.Wanted.{Wanted}
+use Rattle.solve_command.specs.Shown.{wanted_by}
+use Rattle.solve_command.specs.Solve.{DueBy, DueForEnd, DueForRows, DueForSolve}
+use Rattle.solve_command.specs.Starts.{DueForSolveFrom, DueFrom}
+use Rattle.result_tables.specs.declared.attempts.Begun.{Begun}
+use Rattle.result_tables.specs.declared.attempts.Begun.TheVariants.{FromNothing, FromValues, WithoutStart}
+use Rattle.solver_answers.specs.Told.{Told, Breaks, Lacks, Gives, is_passed, is_value}
+use Rattle.std.specs.List.{count_by}
+use Rattle.command_words.specs.declared.command.SolveShow.TheVariants as words
+use Rattle.command_answers.specs.declared.status.Refusal.TheVariants.{StartFile}
+use Rattle.solve_command.proofs.RowsDue.{rows-due}
+use Rattle.osemosys_run.specs.Accepting.{AcceptsEnd}
+
+-- which status an end has
+ends-solved : (end status : Status) (text : List ℕ) → end ≡ Done → status ≡ Done → AcceptsEnd end status text
+ends-solved end status text is done = record {
+  solved = λ h. done;
+  infeasible = λ h. let e : Done ≡ Infeasible = sym is ∙ h in absurd (cc e);
+  unbounded = λ h. let e : Done ≡ Unbounded = sym is ∙ h in absurd (cc e);
+}
+
+ends-infeasible : (end status : Status) (text : List ℕ) → end ≡ Infeasible → (status ≡ Done) × (text ≡ line (codes "accepted infeasible")) → AcceptsEnd end status text
+ends-infeasible end status text is said = record {
+  solved = λ h. let e : Infeasible ≡ Done = sym is ∙ h in absurd (cc e);
+  infeasible = λ h. said;
+  unbounded = λ h. let e : Infeasible ≡ Unbounded = sym is ∙ h in absurd (cc e);
+}
+
+ends-unbounded : (end status : Status) (text : List ℕ) → end ≡ Unbounded → (status ≡ Done) × (text ≡ line (codes "accepted unbounded")) → AcceptsEnd end status text
+ends-unbounded end status text is said = record {
+  solved = λ h. let e : Unbounded ≡ Done = sym is ∙ h in absurd (cc e);
+  infeasible = λ h. let e : Unbounded ≡ Infeasible = sym is ∙ h in absurd (cc e);
+  unbounded = λ h. said;
+}
+
+-- of another status nothing is said
+stopped-so : (end status : Status) (text : List ℕ) (stop : Stop) → end ≡ Uncertified stop → AcceptsEnd end status text
+stopped-so end status text stop is = record {
+  solved = λ h. let e : Uncertified stop ≡ Done = sym is ∙ h in absurd (cc e);
+  infeasible = λ h. let e : Uncertified stop ≡ Infeasible = sym is ∙ h in absurd (cc e);
+  unbounded = λ h. let e : Uncertified stop ≡ Unbounded = sym is ∙ h in absurd (cc e);
+}
+
+refused-so : (end status : Status) (text : List ℕ) (refusal : Refusal) → end ≡ Refused refusal → AcceptsEnd end status text
+refused-so end status text refusal is = record {
+  solved = λ h. let e : Refused refusal ≡ Done = sym is ∙ h in absurd (cc e);
+  infeasible = λ h. let e : Refused refusal ≡ Infeasible = sym is ∙ h in absurd (cc e);
+  unbounded = λ h. let e : Refused refusal ≡ Unbounded = sym is ∙ h in absurd (cc e);
+}
+
+width_or_memory : (place : Place) → book.Width place ≡ book.Memory → ⊥
+width_or_memory place e = cc e
+
+many_or_memory : book.TooManyEntries ≡ book.Memory → ⊥
+many_or_memory e = cc e
+
+module _ (laws : ProofLaws) (made_law : (places : ℕ) (d : Data) (before : ℕ) (names : List RowName) (fail : BookFail) → CanBeMade places d before names → HasStopped places d before names fail → fail ≡ book.Memory)
+    (places gap pivots : ℕ) (begun : Begun) (d : Data) (some : all_variables d ≡ [] → ⊥) (rounded : ℕ) (end : Status) (file : List ℕ) (status : Status) (text : List ℕ) where
+  -- a proof is wanted
+  abbrev to_prove : SolveMethod → Wanted
+  to_prove method = record { gap = gap; pivots = pivots; show = Proof; method = method; begun = begun }
+
+  module _ (rows others : List Row) (are : AreRowsOf places d (instances d) rows) (so : AreRowsOf places d (instances d) others) (due : DueForProofFile places d others file gap status text) where
+    of_end : (method : SolveMethod) → DueForEnd places d rows (to_prove method) rounded end file → AcceptsEnd end status text
+    of_end method (inl solved) =
+        ends-solved end status text solved.status_is
+        (optimum-accepted laws places d file gap status text rows others are so solved.multipliers solved.told.kept solved.told.same solved.plan solved.cost solved.bound solved.optimum.near.checked
+        solved.optimum.near.proved solved.optimum.near.gap_kept (solved.told.read some) due)
+    of_end method (inr (inl (infeasible, told))) =
+        ends-infeasible end status text infeasible.status_is
+        (refutation-accepted laws places d file gap status text rows others are so infeasible.multipliers told.kept told.same infeasible.refuted.proved (told.read some) due)
+    of_end method (inr (inr (inl (unbounded, told)))) =
+        ends-unbounded end status text unbounded.status_is
+        (descent-accepted laws places d file gap status text rows others are so unbounded.plan unbounded.direction unbounded.unbounded.cost unbounded.unbounded.checked unbounded.unbounded.descends (told some) due)
+    of_end method (inr (inr (inr (inl out)))) = stopped-so end status text _ out.status_is
+    of_end method (inr (inr (inr (inr (inl wide))))) = stopped-so end status text _ wide.status_is
+    of_end method (inr (inr (inr (inr (inr (inl wide)))))) = stopped-so end status text _ wide.status_is
+    of_end method (inr (inr (inr (inr (inr (inr second)))))) =
+        ends-solved end status text second.status_is
+        (optimum-accepted laws places d file gap status text rows others are so second.found.multipliers second.told.kept second.told.same second.found.plan second.found.cost second.found.bound second.optimum.checked
+        second.optimum.proved second.optimum.gap_kept (second.told.read some) due)
+
+    of_method : (asked method : SolveMethod) → DueBy method places d rows (to_prove asked) rounded end file → AcceptsEnd end status text
+    of_method asked Exact of = of_end asked of
+    of_method asked Rounded (inl found) =
+        ends-solved end status text found.status_is
+        (optimum-accepted laws places d file gap status text rows others are so found.multipliers found.told.kept found.told.same found.plan found.cost found.bound found.optimum.checked found.optimum.proved
+        found.optimum.gap_kept (found.told.read some) due)
+    of_method asked Rounded (inr (inl (infeasible, told))) =
+        ends-infeasible end status text infeasible.status_is
+        (refutation-accepted laws places d file gap status text rows others are so infeasible.multipliers told.kept told.same infeasible.refuted.proved (told.read some) due)
+    of_method asked Rounded (inr (inr of)) = of_end asked of
+
+  no-rows : HasNoRows places d end file → AcceptsEnd end status text
+  no-rows (inl wide) = stopped-so end status text _ wide.status_is
+  no-rows (inr many) = refused-so end status text _ many.status_is
+
+  -- where the rows were made, they are made again
+  made-again : CanBeMade places d 0 (instances d) → HasNoRows places d status text → ⊥
+  made-again can (inl wide) = width_or_memory (Place.Row wide.name) (made_law places d 0 (instances d) (book.Width (Place.Row wide.name)) can (wide.name, refl, wide.wide))
+  made-again can (inr many) = many_or_memory (made_law places d 0 (instances d) book.TooManyEntries can (many.name, many.many))
+
+  accepts-rows : (method : SolveMethod) (rows : List Row) → AreRowsOf places d (instances d) rows → CanBeMade places d 0 (instances d) → DueForRows places d rows (to_prove method) rounded end file
+      → DueForProof places file gap d status text → AcceptsEnd end status text
+  accepts-rows method rows are can of_rows (inl again) = elim (rows-due places d rows (to_prove method) rounded end file of_rows) [
+    | inl large ↦ refused-so end status text _ large.status_is
+    | inr of ↦ of_method rows again.rows are again.are_rows again.due method method of
+  ]
+  accepts-rows method rows are can of_rows (inr none) = absurd (made-again can none)
+
+  accepts-made : (method : SolveMethod) → DueForSolve places (to_prove method) rounded d end file → DueForProof places file gap d status text → AcceptsEnd end status text
+  accepts-made method (inl made) due = accepts-rows method made.rows made.are_rows made.made made.due due
+  accepts-made method (inr none) due = no-rows none
+
+module _ (laws : ProofLaws) (made_law : (places : ℕ) (d : Data) (before : ℕ) (names : List RowName) (fail : BookFail) → CanBeMade places d before names → HasStopped places d before names fail → fail ≡ book.Memory)
+    (places gap pivots : ℕ) (d : Data) (some : all_variables d ≡ [] → ⊥) (rounded : ℕ) (end : Status) (file : List ℕ) (status : Status) (text : List ℕ) where
+  -- where guesses begin from nothing
+  pub accepts-end : (method : SolveMethod) → DueForSolve places (wanted_by gap pivots words.Proof method) rounded d end file → DueForProof places file gap d status text → AcceptsEnd end status text
+  accepts-end = accepts-made laws made_law places gap pivots FromNothing d some rounded end file status text
+
+  -- and where they begin from what a file holds
+  accepts-told : (said : Told) (method : SolveMethod) (rows : List Row) → AreRowsOf places d (instances d) rows → CanBeMade places d 0 (instances d)
+      → DueFrom said places d rows (wanted_by gap pivots words.Proof method) rounded end file → DueForProof places file gap d status text → AcceptsEnd end status text
+  accepts-told (Breaks number) method rows are can due proved = refused-so end status text (StartFile number) due.0
+  accepts-told Lacks method rows are can due proved = accepts-rows laws made_law places gap pivots WithoutStart d some rounded end file status text method rows are can due proved
+  accepts-told (Gives founds) method rows are can due proved =
+      accepts-rows laws made_law places gap pivots (FromValues (count_by is_value founds) (count_by is_passed founds)) d some rounded end file status text method rows are can due proved
+
+  pub accepts-from : (method : SolveMethod) (bytes : List ℕ) → DueForSolveFrom places (wanted_by gap pivots words.Proof method) bytes rounded d end file → DueForProof places file gap d status text → AcceptsEnd end status text
+  accepts-from method bytes (inl made) due = accepts-told made.due.0 method made.rows made.are_rows made.made made.due.2 due
+  accepts-from method bytes (inr none) due =
+      no-rows laws made_law places gap pivots FromNothing d some rounded end file status text none

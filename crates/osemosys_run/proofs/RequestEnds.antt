@@ -1,0 +1,46 @@
+-- A request that must come to an end does: what is due for it is that.
+use Rattle.std.proofs.Common.{◌≡◌, ℕ, List, Option, Result, Ok, subst}
+use Rattle.std.specs.Option.{option_map}
+use Rattle.command_answers.specs.declared.status.Status.{Status}
+use Rattle.command_words.specs.declared.command.MakeShow.TheVariants.{File, Summary}
+use Rattle.command_words.specs.declared.fault.WordFault.{WordFault}
+use Rattle.command_words.specs.Words.{Request, Check, CheckProof, Compare, Curve, Explain, Make, Mps, Page, Reduce, Solve, SolveFrom, Span, Table, Warn, asked, names_of}
+use Rattle.model_maker.specs.MadeText.{made_text}
+use Rattle.osemosys_run.specs.Complete.{AreThere, CanBeDone, IsEndOf}
+use Rattle.osemosys_run.specs.Due.{Due, DueForRequest, DueOver, bytes_at}
+use Rattle.osemosys_run.proofs.Completeness.{Laws, accepted, written}
+use Rattle.osemosys_run.proofs.CompareCompleteness.{compared}
+use Rattle.osemosys_run.proofs.CurveCompleteness.{drawn}
+use Rattle.osemosys_run.proofs.ExplainCompleteness.{explained}
+use Rattle.osemosys_run.proofs.FilesDue.{over_there}
+use Rattle.osemosys_run.proofs.ShownCompleteness.{paged, tabled}
+use Rattle.osemosys_run.proofs.SolveCompleteness.{ended, ended_from_start, summary_ended}
+use Rattle.osemosys_run.proofs.SpanCompleteness.{spanned}
+
+completes : Laws → (request : Request) (contents : List (List ℕ)) (status : Status) (text : List ℕ) → CanBeDone request contents → DueOver request contents status text → IsEndOf request status
+completes laws (Mps name places) contents status text can due = written laws places (bytes_at contents 0) status text can due
+completes laws (Check name plan multipliers gap places) contents status text can due =
+    accepted laws gap places (bytes_at contents 0) (bytes_at contents 1) (option_map (λ name. bytes_at contents 2) multipliers) status text can due
+completes laws (CheckProof name proof gap places) contents status text can due = absurd can
+completes laws (Solve name gap pivots places show method) contents status text can due = ended laws gap pivots places show (bytes_at contents 0) status text can method due
+completes laws (SolveFrom name start gap pivots places show) contents status text can due =
+    ended_from_start laws gap pivots places show (bytes_at contents 0) status text can.solved (bytes_at contents 1) can.in_form due
+completes laws (Explain name pivots places method) contents status text can due = explained laws pivots places method (bytes_at contents 0) status text can due
+completes laws (Curve name region emission limits gap pivots places method) contents status text can due = drawn laws region emission limits gap pivots places method (bytes_at contents 0) status text can due
+completes laws (Span name region technology year slack gap pivots places method) contents status text can due =
+    spanned laws region technology year slack gap pivots places method (bytes_at contents 0) status text can due
+completes laws (Make size File) contents status text can due = absurd can
+completes laws (Make size Summary) contents status text can due = summary_ended laws (made_text size) status due.0 can due.1
+completes laws (Table name proof table exact gap places) contents status text can due =
+    tabled laws gap places (bytes_at contents 0) (bytes_at contents 1) can.1 status text table exact can.0.0 can.0.1 due
+completes laws (Page name proof gap places) contents status text can due = paged laws gap places (bytes_at contents 0) (bytes_at contents 1) can status text due
+completes laws (Warn name) contents status text can due = absurd can
+completes laws (Compare first first_proof second second_proof gap places show) contents status text can due =
+    compared laws gap places show (bytes_at contents 0) (bytes_at contents 1) (bytes_at contents 2) (bytes_at contents 3) can.0 can.1 status text due
+completes laws (Reduce name places) contents status text can due = absurd can
+
+pub completes_words : Laws → (words : List (List ℕ)) (files : List (List ℕ × List ℕ)) (status : Status) (text : List ℕ) → Due words files status text
+    → (request : Request) (contents : List (List ℕ)) → asked words ≡ Ok request → AreThere files (names_of request) contents → CanBeDone request contents → IsEndOf request status
+completes_words laws words files status text due request contents asks there can =
+    completes laws request contents status text can
+    (over_there (DueOver request) 1 (names_of request) contents files status text there (subst (λ (r : Result Request WordFault). DueForRequest r files status text) asks due))

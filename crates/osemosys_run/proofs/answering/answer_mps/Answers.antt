@@ -1,0 +1,25 @@
+use Rattle.std.proofs.Common.{◌≡◌, ◌∷◌, inl, inr, refl}
+use Rattle.std.proofs.lemmas.Result.{IfOk-weaker, MatchResult-at_err, MatchResult-at_ok}
+use Rattle.model_sets.specs.Data.{AreSameData, Data}
+use Rattle.param_tables.specs.Built.{AreGivenAlike}
+use Rattle.command_answers.specs.Accepted.{Accepted}
+use Rattle.command_words.specs.Words.{Mps}
+use Rattle.osemosys_run.proofs.ReplyLaws.{equations_own, told_reply}
+use Rattle.osemosys_run.proofs.answering.answer_mps.Goals as goal
+
+pub returns-in-Ok : goal.returns-in-Ok
+returns-in-Ok c = λ name text others stands short.
+    let found : (d : Data) × (accepted : Accepted text d) × AreSameData c.in-Ok.model.facts d × (c.in-Ok.model.rounded ≡ accepted.blocks.rounded) × AreGivenAlike c.in-Ok.model.facts d =
+    MatchResult-at_ok _ _ c.in-Ok.model c.in-Ok.is (c.in_ok-model.ensures text stands short) in
+    record {
+      due = λ status line said. inr (found.0, found.1, said found.0 found.2);
+      own = λ status line said. equations_own c.args.places found.0 status line (said found.0 found.2);
+      can_be_sent = c.requires.places;
+      as_made = λ made. record { name = name; places = c.args.places; is = refl };
+    }
+
+pub returns-in-Err : goal.returns-in-Err
+returns-in-Err c = λ name text others stands short.
+    IfOk-weaker c.told.result _ _
+    (λ reply is. told_reply (Mps name c.args.places) (text ∷ others) c.in-Err.answer reply is (inl (MatchResult-at_err _ _ c.in-Err.answer c.in-Err.is (c.in_ok-model.ensures text stands short))))
+    c.told.ensures

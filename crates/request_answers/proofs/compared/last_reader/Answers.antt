@@ -1,9 +1,0 @@
-use Rattle.std.proofs.Common.{◌∷◌, ◌++◌, [], List, subst}
-use Rattle.mathprog_data.specs.Pieces.{PieceState, StandsFor}
-use Rattle.request_files.specs.Marked.{AllHold}
-use Rattle.request_answers.proofs.RequestLaws.{last_holds}
-use Rattle.request_answers.proofs.compared.last_reader.Goals as goal
-
-pub returns : goal.returns
-returns c = λ texts text all.
-    last_holds c.pop.new.self.items c.in-Some.reader texts text (subst (λ (fed : List PieceState). AllHold StandsFor fed (texts ++ text ∷ [])) c.in-Some.ensures.items all)
