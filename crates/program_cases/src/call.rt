@@ -4,7 +4,7 @@ use crate::cases::read_case;
 use crate::seen_stages::SeenStages;
 use crate::shown::print_shown;
 use io_edges::{DiskShelf, MemSink};
-use osemosys_run::{Status, osemosys_watched};
+use osemosys_run::{Status, WordFault, osemosys_watched};
 use std::io;
 
 /// The room of a text.
@@ -30,8 +30,20 @@ pub fn print_case(rt: &HostRuntime, line: &str) -> io::Result<()> {
 /// Prints the exit status, and what is wrong with the words where they are refused.
 fn print_status(rt: &HostRuntime, status: &Status) -> io::Result<()> {
     match status {
-        Status::Words(fault) => println!(rt; "status {} {fault:?}", status.code())?,
+        Status::Words(fault) => println!(rt; "status {} {}", status.code(), word_of(*fault))?,
         _ => println!(rt; "status {}", status.code())?,
     }
     Ok(())
+}
+
+/// What is wrong with the words.
+fn word_of(fault: WordFault) -> &'static str {
+    match fault {
+        WordFault::NoCommand => "NoCommand",
+        WordFault::BadCommand => "BadCommand",
+        WordFault::BadForm => "BadForm",
+        WordFault::BadNumber => "BadNumber",
+        WordFault::BadShow => "BadShow",
+        WordFault::GapAlone => "GapAlone",
+    }
 }

@@ -5,7 +5,7 @@ ghost use Rattle.written_method.specs.Ready.{IsReady};
 use crate::numbers::shown;
 use crate::programs::program;
 use row_core::Plan;
-use simplex_core::{End, Lambda, kept_pivots, solve};
+use simplex_core::{End, Halt, Lambda, kept_pivots, solve};
 use std::alloc::{AllocError, Global};
 use std::io;
 use written_method::Reduced;
@@ -27,9 +27,18 @@ pub fn print_end(rt: &HostRuntime, line: &str) -> io::Result<()> {
             print_kept(rt, &reduced, &end, pivots)
         }
         Err(halt) => {
-            println!(rt; "{halt:?}")?;
+            println!(rt; "{}", word_of(&halt))?;
             Ok(())
         }
+    }
+}
+
+/// Why there is no end.
+fn word_of(halt: &Halt) -> &'static str {
+    match halt {
+        Halt::Budget => "Budget",
+        Halt::Width(_) => "Width",
+        Halt::Memory => "Memory",
     }
 }
 
