@@ -1,10 +1,7 @@
 -- The annuity: which quotient it is, and that it is at most the years of the life.
 -- With A = 10^9 + rate, a year's rounding adds less than A to what (10^18 - discounted) * A gains in it. From the third year on the
 -- interest on what earlier years have lost is more than twice as much, so that the annuity of six years and more stays below the life.
-use Rattle.std.proofs.Common.{◌≡◌, ℕ, zero, suc, ◌+◌, ◌-◌, ◌*◌, ◌/◌, ◌^◌, ◌<◌, ◌≤◌, true, ltb, refl, subst, inl, inr, arith}
-use Rattle.std.proofs.Math.Nat.{div-le_of_le-mul, mul-le-mul, mul-le-mul_left, mul-le-mul_right, le_of_mul-le-mul_right}
-use Rattle.std.proofs.lemmas.Bool.{cases_lt, cond_both, cond-true, ltb-true}
-use Rattle.discount_factors.specs.Factors.{unit_of, discounted, annuity}
+use Rattle.discount_factors.proofs.Common.{◌≡◌, ℕ, zero, suc, ◌+◌, ◌-◌, ◌*◌, ◌/◌, ◌^◌, ◌<◌, ◌≤◌, true, ltb, refl, subst, inl, inr, arith, div-le_of_le-mul, mul-le-mul, mul-le-mul_left, mul-le-mul_right, le_of_mul-le-mul_right, cases_lt, cond_both, cond-true, ltb-true, unit_of, discounted, annuity}
 use Rattle.discount_factors.proofs.ValueLaws.{discounted-first, discounted-le, discounted-monotone, year_below, year_above}
 
 -- ---- which quotient it is

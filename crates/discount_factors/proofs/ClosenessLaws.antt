@@ -1,8 +1,6 @@
 -- How near the written factors lie to the real powers of 1 / (1 + d). Below, unit is 1 at the scale of the factors, and step is one of
 -- their last place at the scale of what is divided: the product of both is 1 there.
-use Rattle.std.proofs.Common.{◌≡◌, ℕ, zero, suc, ◌+◌, ◌*◌, ◌/◌, ◌^◌, ◌<◌, ◌≤◌, pow-add, ap, ◌∙◌, arith}
-use Rattle.std.proofs.Math.Nat.{pow-suc, pow-zero, one-mul, mul-le-mul, mul-lt-mul_of_pos_right, mul-le-mul_right, mul-le-mul_left, le_of_mul-le-mul_right, lt_of_mul-lt-mul_right}
-use Rattle.discount_factors.specs.Factors.{unit_of, IsPlaces, discounted, capital_factor, half_year_root, operating_factor}
+use Rattle.discount_factors.proofs.Common.{◌≡◌, ℕ, zero, suc, ◌+◌, ◌*◌, ◌/◌, ◌^◌, ◌<◌, ◌≤◌, pow-add, ap, ◌∙◌, arith, pow-suc, pow-zero, one-mul, mul-le-mul, mul-lt-mul_of_pos_right, mul-le-mul_right, mul-le-mul_left, le_of_mul-le-mul_right, lt_of_mul-lt-mul_right, unit_of, IsPlaces, discounted, capital_factor, half_year_root, operating_factor}
 use Rattle.discount_factors.proofs.Scales.{steps, half_year_steps, step_above, half_year_step_above}
 use Rattle.discount_factors.proofs.ValueLaws.{discounted-le, discounted-below, discounted-above}
 use Rattle.discount_factors.proofs.RootLaws.{half_year_root-le, half_year_root-within, half_year_root-above}

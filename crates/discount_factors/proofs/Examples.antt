@@ -1,8 +1,6 @@
 -- The written factors of years computed on worked examples with 6 decimal places, and on near misses.
-use Rattle.std.proofs.Common.{◌≡◌, ◌+◌, ◌*◌, ◌^◌, ◌≤◌, ◌<◌, refl, arith}
+use Rattle.discount_factors.proofs.Common.{◌≡◌, ◌+◌, ◌*◌, ◌^◌, ◌≤◌, ◌<◌, refl, arith, IsNearHalfPower, IsNearPower, discounted, capital_factor, half_year_root, root_from, operating_factor, salvage_fraction}
 use Rattle.std.specs.Prelude.{nat_le, true, false}
-use Rattle.discount_factors.specs.Closeness.{IsNearHalfPower, IsNearPower}
-use Rattle.discount_factors.specs.Factors.{discounted, capital_factor, half_year_root, root_from, operating_factor, salvage_fraction}
 
 -- ---- rate 0.05
 capital_of_0 : capital_factor 6 50000000 0 ≡ 1000000

@@ -1,7 +1,5 @@
 -- The capital and the operating factor: what their quotients say, that neither is above 1, and what they are at rate 0.
-use Rattle.std.proofs.Common.{◌≡◌, ℕ, ◌+◌, ◌*◌, ◌/◌, ◌^◌, ◌<◌, ◌≤◌, refl, arith}
-use Rattle.std.proofs.Math.Nat.{div-mul-le_self, lt-div-mul-add, le_of_mul-le-mul_right, mul-le-mul}
-use Rattle.discount_factors.specs.Factors.{unit_of, IsPlaces, discounted, capital_factor, half_year_root, root_from, operating_factor}
+use Rattle.discount_factors.proofs.Common.{◌≡◌, ℕ, ◌+◌, ◌*◌, ◌/◌, ◌^◌, ◌<◌, ◌≤◌, refl, arith, div-mul-le_self, lt-div-mul-add, le_of_mul-le-mul_right, mul-le-mul, unit_of, IsPlaces, discounted, capital_factor, half_year_root, root_from, operating_factor}
 use Rattle.discount_factors.proofs.Scales.{at_places, steps, half_year_steps, step_above, half_year_step_above}
 use Rattle.discount_factors.proofs.ValueLaws.{discounted-le, discounted-level}
 use Rattle.discount_factors.proofs.RootLaws.{half_year_root-le}

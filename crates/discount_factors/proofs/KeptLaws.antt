@@ -1,8 +1,5 @@
 -- What is kept for the factors, in the words of what contracts see of them.
-use Rattle.std.proofs.Common.{◌≡◌, ℕ, ◌+◌, ◌*◌, ◌^◌, ◌<◌, ◌≤◌, List, ap, ◌∙◌, subst, arith}
-use Rattle.std.proofs.Math.Nat.{mul-le-mul}
-use Rattle.discount_factors.specs.Factors.{unit_of, IsPlaces}
-use Rattle.discount_factors.specs.Known.{AreKept}
+use Rattle.discount_factors.proofs.Common.{◌≡◌, ℕ, ◌+◌, ◌*◌, ◌^◌, ◌<◌, ◌≤◌, List, ap, ◌∙◌, subst, arith, mul-le-mul, unit_of, IsPlaces, AreKept}
 use Rattle.discount_factors.proofs.Scales.{unit_most}
 
 pub kept_places : {rate span lives places root unit : ℕ} {values : List ℕ} (seen : ℕ) → AreKept rate span lives places root unit values → places ≡ seen → IsPlaces seen

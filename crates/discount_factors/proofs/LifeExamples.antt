@@ -1,7 +1,5 @@
 -- The recovery factor and the annuity computed on worked examples, and on near misses.
-use Rattle.std.proofs.Common.{◌≡◌, ◌-◌, ◌*◌, ◌/◌, ◌^◌, refl}
-use Rattle.std.specs.Prelude.{nat_eq, false}
-use Rattle.discount_factors.specs.Factors.{discounted, recovery_factor, annuity}
+use Rattle.discount_factors.proofs.Common.{◌≡◌, ◌-◌, ◌*◌, ◌/◌, ◌^◌, refl, nat_eq, false, discounted, recovery_factor, annuity}
 
 -- ---- rate 0.05, 20 years: an investment of 1 is paid back by 0.076421 a year, and 1 a year is worth 13.08532
 recovery_of_20 : recovery_factor 6 50000000 20 ≡ 76421

@@ -1,9 +1,6 @@
 -- The salvage fraction and the recovery factor: which quotient each is, that neither is above 1, and what they are at rate 0.
 use Rattle.std.proofs.Common.{◌≡◌, ℕ, ◌-◌, ◌*◌, ◌/◌, ◌^◌, ◌<◌, ◌≤◌, true, false, eqb, ltb, refl, arith}
-use Rattle.std.proofs.Math.Nat.{div-le_of_le-mul, div-le_self, mul-le-mul_left}
-use Rattle.std.proofs.lemmas.Bool.{cond_both, cond-true, cond-false, and_right}
-use Rattle.std.specs.Prelude.{◌&&◌}
-use Rattle.discount_factors.specs.Factors.{unit_of, discounted, sinking_fund, straight_line, salvage_fraction, recovery_factor}
+use Rattle.discount_factors.proofs.Common.{div-le_of_le-mul, div-le_self, mul-le-mul_left, cond_both, cond-true, cond-false, and_right, ◌&&◌, unit_of, discounted, sinking_fund, straight_line, salvage_fraction, recovery_factor}
 use Rattle.discount_factors.proofs.ValueLaws.{discounted-monotone}
 
 -- a part of a whole is at most 1

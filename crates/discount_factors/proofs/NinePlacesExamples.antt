@@ -1,8 +1,5 @@
 -- The written factors computed with 9 decimal places, and near misses.
-use Rattle.std.proofs.Common.{◌≡◌, ◌+◌, ◌*◌, ◌/◌, ◌^◌, ◌≤◌, ◌<◌, refl, arith}
-use Rattle.std.specs.Prelude.{nat_eq, false}
-use Rattle.discount_factors.specs.Closeness.{IsNearHalfPower, IsNearPower}
-use Rattle.discount_factors.specs.Factors.{discounted, capital_factor, half_year_root, root_from, operating_factor, salvage_fraction}
+use Rattle.discount_factors.proofs.Common.{◌≡◌, ◌+◌, ◌*◌, ◌/◌, ◌^◌, ◌≤◌, ◌<◌, refl, arith, nat_eq, false, IsNearHalfPower, IsNearPower, discounted, capital_factor, half_year_root, root_from, operating_factor, salvage_fraction}
 
 -- ---- rate 0.05
 capital_of_5 : capital_factor 9 50000000 5 ≡ 783526166

@@ -1,8 +1,5 @@
 -- The half-year root: halving finds the greatest number that is within the bound, and there is one such number alone.
-use Rattle.std.proofs.Common.{◌≡◌, ℕ, zero, suc, ◌+◌, ◌*◌, ◌/◌, ◌^◌, ◌<◌, ◌≤◌, inl, inr, true, leb, subst, arith}
-use Rattle.std.proofs.Math.Nat.{pow-suc, mul-le-mul, mul-le-mul_right, div-mul-le_self, lt-div-mul-add}
-use Rattle.std.proofs.lemmas.Bool.{cases_lt, cond_both, leb-true, leb-false}
-use Rattle.discount_factors.specs.Factors.{IsWithinRoot, IsHalfYearRoot, root_from, half_year_root}
+use Rattle.discount_factors.proofs.Common.{◌≡◌, ℕ, zero, suc, ◌+◌, ◌*◌, ◌/◌, ◌^◌, ◌<◌, ◌≤◌, inl, inr, true, leb, subst, arith, pow-suc, mul-le-mul, mul-le-mul_right, div-mul-le_self, lt-div-mul-add, cases_lt, cond_both, leb-true, leb-false, IsWithinRoot, IsHalfYearRoot, root_from, half_year_root}
 
 -- h is within the bound, and h + gap is above it
 record IsBetween (rate h gap : ℕ) : Type 0 where

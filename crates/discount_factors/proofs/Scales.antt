@@ -1,6 +1,5 @@
 -- The two scales of factors: what is true of both, each computed.
-use Rattle.std.proofs.Common.{◌≡◌, ℕ, ◌*◌, ◌/◌, ◌^◌, ◌≤◌, refl, sym, subst, inl, inr, arith}
-use Rattle.discount_factors.specs.Factors.{unit_of, IsPlaces}
+use Rattle.discount_factors.proofs.Common.{◌≡◌, ℕ, ◌*◌, ◌/◌, ◌^◌, ◌≤◌, refl, sym, subst, inl, inr, arith, unit_of, IsPlaces}
 
 -- what is true at 6 and at 9 is true of the number of places
 pub at_places : (P : ℕ → Type 0) → P 6 → P 9 → (places : ℕ) → IsPlaces places → P places

@@ -1,9 +1,5 @@
 -- Lists of discounted values.
-use Rattle.std.proofs.Common.{◌≡◌, ℕ, ◌+◌, List, [], ◌∷◌, ◌++◌, length, ap, ◌∙◌, inl, inr, arith}
-use Rattle.std.proofs.lemmas.Bool.{cases_lt}
-use Rattle.std.proofs.lemmas.List.{get_or_append_left, get_or_push, length-append}
-use Rattle.discount_factors.specs.Factors.{discounted}
-use Rattle.discount_factors.specs.Known.{AreDiscounted}
+use Rattle.discount_factors.proofs.Common.{◌≡◌, ℕ, ◌+◌, List, [], ◌∷◌, ◌++◌, length, ap, ◌∙◌, inl, inr, arith, cases_lt, get_or_append_left, get_or_push, length-append, discounted, AreDiscounted}
 
 -- one value more
 pub AreDiscounted-more : (rate v : ℕ) (values : List ℕ) → AreDiscounted rate values → v ≡ discounted rate (length values) → AreDiscounted rate (values ++ v ∷ [])

@@ -1,8 +1,5 @@
 -- The discounted values: each is a rounded quotient of the one before, so they fall, and each year's rounding loses less than 1.
-use Rattle.std.proofs.Common.{◌≡◌, ℕ, zero, suc, ◌+◌, ◌-◌, ◌*◌, ◌/◌, ◌^◌, ◌<◌, ◌≤◌, refl, subst, inl, inr, arith}
-use Rattle.std.proofs.Math.Nat.{pow-suc, pow-zero, div-mul-le_self, lt-div-mul-add, mul-le-mul_right, mul-le-mul_left, le_of_mul-le-mul_right}
-use Rattle.std.proofs.lemmas.Bool.{cases_lt}
-use Rattle.discount_factors.specs.Factors.{discounted}
+use Rattle.discount_factors.proofs.Common.{◌≡◌, ℕ, zero, suc, ◌+◌, ◌-◌, ◌*◌, ◌/◌, ◌^◌, ◌<◌, ◌≤◌, refl, subst, inl, inr, arith, pow-suc, pow-zero, div-mul-le_self, lt-div-mul-add, mul-le-mul_right, mul-le-mul_left, le_of_mul-le-mul_right, cases_lt, discounted}
 
 pub discounted-first : (rate : ℕ) → discounted rate 0 ≡ 10 ^ 18
 unfolding discounted

@@ -1,6 +1,5 @@
 -- The laws of arithmetic for exact values.
-use Rattle.std.proofs.Common.{◌≡◌, ◌≢◌, ℤ, pos, neg_ℤ, ◌+ℤ◌, ◌*ℤ◌, sym, refl, ap, ap₂, ◌∙◌}
-use Rattle.exact_num.specs.Rational.{Rational, IsLowest, lowest, whole, negated, plus, minus, times, divided}
+use Rattle.exact_num.proofs.Common.{◌≡◌, ◌≢◌, ℤ, pos, neg_ℤ, ◌+ℤ◌, ◌*ℤ◌, sym, refl, ap, ap₂, ◌∙◌, Rational, IsLowest, lowest, whole, negated, plus, minus, times, divided}
 use Rattle.exact_num.proofs.Integers.{*ℤ_nonzero}
 use Rattle.exact_num.proofs.RationalLaws.{bottom_nonzero, lowest_same, lowest_is, lowest-cross, lowest-IsLowest, lowest-mul, lowest-self, whole-IsLowest, negated-IsLowest, plus-IsLowest, plus-cross, times-IsLowest, times-cross, minus-is_plus, divided-cross, divided-IsLowest}
 use Rattle.exact_num.proofs.Ring.{ring, products, *ℤ_comm, *ℤ_assoc, *ℤ-one, *ℤ-zero, zero-*ℤ, +ℤ-zero, +ℤ_comm, neg_ℤ-*ℤ, neg_ℤ-+ℤ, +ℤ-neg_ℤ}

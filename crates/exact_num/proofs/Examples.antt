@@ -1,11 +1,5 @@
 -- The definitions computed on worked examples, and on near misses.
-use Rattle.std.proofs.Common.{◌≡◌, ℕ, ◌-◌, ◌^◌, pos, negsuc, List, [], ◌∷◌, true, false, Some, None, eqb, refl}
-use Rattle.std.specs.declared.cmp.Ordering.TheVariants.{Less, Greater}
-use Rattle.exact_num.specs.Formed.{sum_formed, difference_formed, product_formed, quotient_formed}
-use Rattle.exact_num.specs.Gcd.{gcd_of, gcd_within}
-use Rattle.exact_num.specs.Range.{in_range, all_fit}
-use Rattle.exact_num.specs.Rational.{pair, whole, lowest, plus, minus, times, divided, order_of}
-use Rattle.exact_num.specs.Steps.{Step, first_wide}
+use Rattle.exact_num.proofs.Common.{◌≡◌, ℕ, ◌-◌, ◌^◌, pos, negsuc, List, [], ◌∷◌, true, false, Some, None, eqb, refl, Less, Greater, sum_formed, difference_formed, product_formed, quotient_formed, gcd_of, gcd_within, in_range, all_fit, pair, whole, lowest, plus, minus, times, divided, order_of, Step, first_wide}
 
 -- ---- the greatest common divisor
 gcd_12_18 : gcd_of 12 18 ≡ 6

@@ -1,9 +1,5 @@
 -- The laws of the greatest common divisor, over ℕ.
-use Rattle.std.proofs.Common.{◌≡◌, ℕ, zero, suc, ◌+◌, ◌*◌, ◌/◌, ◌%◌, ◌-◌, ◌<◌, ◌≤◌, sym, ap, subst, ◌∙◌, refl, arith}
-use Rattle.std.specs.Int.{IsGcd, ◌∣◌}
-use Rattle.std.proofs.lemmas.Nat.Gcd.{dvd_antisymm, IsGcd-from_zero, IsGcd-from_mod, IsGcd-from_sub, IsGcd-swap, same_from_IsGcd, dvd_refl, dvd_trans, le_of_dvd}
-use Rattle.std.proofs.Math.Nat.{dvd-mul_left, dvd-mul_right_of_dvd, eq-one_of_dvd-one, div-mul_cancel, mul_comm, dvd-sub, eq_of_mul-eq-mul_right, mul-dvd-mul_left, pos_of_dvd_of_pos}
-use Rattle.exact_num.specs.Gcd.{gcd_of, gcd_within}
+use Rattle.exact_num.proofs.Common.{◌≡◌, ℕ, zero, suc, ◌+◌, ◌*◌, ◌/◌, ◌%◌, ◌-◌, ◌<◌, ◌≤◌, sym, ap, subst, ◌∙◌, refl, arith, IsGcd, ◌∣◌, dvd_antisymm, IsGcd-from_zero, IsGcd-from_mod, IsGcd-from_sub, IsGcd-swap, same_from_IsGcd, dvd_refl, dvd_trans, le_of_dvd, dvd-mul_left, dvd-mul_right_of_dvd, eq-one_of_dvd-one, div-mul_cancel, mul_comm, dvd-sub, eq_of_mul-eq-mul_right, mul-dvd-mul_left, pos_of_dvd_of_pos, gcd_of, gcd_within}
 
 within-IsGcd : (k a b : ℕ) → b ≤ k → IsGcd a b (gcd_within k a b)
 unfolding gcd_within

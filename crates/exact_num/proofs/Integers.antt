@@ -1,12 +1,5 @@
 -- Signs, order, cancellation and exact division over ℤ.
-use Rattle.std.proofs.Common.{◌≡◌, ◌≢◌, ℕ, zero, suc, ◌+◌, ◌/◌, ◌<◌, ℤ, pos, negsuc, neg_ℤ, ◌*ℤ◌, sym, refl, ap, ◌∙◌, inl, inr, arith, ◌⊎◌}
-use Rattle.std.proofs.lemmas.Bool.{cases_lt}
-use Rattle.std.specs.Prelude.{unsigned_abs, int_div, ◌<ℤ◌, ◌≤ℤ◌}
-use Rattle.std.specs.Int.{◌∣◌}
-use Rattle.std.proofs.lemmas.Int.{ints, unsigned_abs-mul}
-use Rattle.std.proofs.Math.Nat.{eq_of_mul-eq-mul_right, div-mul_cancel, mul-le-mul_left}
-use borrow.Author.Differences.{up, down, le_out, lt_out}
-use Rattle.exact_num.specs.Rational.{signed_by}
+use Rattle.exact_num.proofs.Common.{◌≡◌, ◌≢◌, ℕ, zero, suc, ◌+◌, ◌/◌, ◌<◌, ℤ, pos, negsuc, neg_ℤ, ◌*ℤ◌, sym, refl, ap, ◌∙◌, inl, inr, arith, ◌⊎◌, cases_lt, unsigned_abs, int_div, ◌<ℤ◌, ◌≤ℤ◌, ◌∣◌, ints, unsigned_abs-mul, eq_of_mul-eq-mul_right, div-mul_cancel, mul-le-mul_left, up, down, le_out, lt_out, signed_by}
 use Rattle.exact_num.proofs.Ring.{*ℤ_comm, neg_ℤ-*ℤ, *ℤ-neg_ℤ, zero-*ℤ}
 
 -- ---- absolute values and signs

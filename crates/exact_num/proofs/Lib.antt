@@ -1,3 +1,4 @@
+mod Common
 pub mod ArithmeticLaws
 mod Examples
 pub mod GcdLaws

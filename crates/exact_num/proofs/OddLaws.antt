@@ -1,11 +1,6 @@
 -- Factors of 2: the greatest common divisor by odd parts and differences.
-use Rattle.std.proofs.Common.{◌≡◌, ℕ, zero, suc, ◌+◌, ◌-◌, ◌*◌, ◌/◌, ◌%◌, ◌^◌, ◌<◌, max, min, sym, refl, ap, ap₂, ◌∙◌, inl, inr, arith}
-use Rattle.std.specs.Int.{abs_diff}
-use Rattle.std.specs.Int.Count.{count_trailing_zeros, under}
-use Rattle.std.proofs.lemmas.Bool.{cases_lt}
+use Rattle.exact_num.proofs.Common.{◌≡◌, ℕ, zero, suc, ◌+◌, ◌-◌, ◌*◌, ◌/◌, ◌%◌, ◌^◌, ◌<◌, max, min, sym, refl, ap, ap₂, ◌∙◌, inl, inr, arith, abs_diff, count_trailing_zeros, under, cases_lt, div-div-eq-div-mul, mul_comm, pow-succ', gcd_of}
 use Rattle.std.proofs.lemmas.Nat.{pow-add}
-use Rattle.std.proofs.Math.Nat.{div-div-eq-div-mul, mul_comm, pow-succ'}
-use Rattle.exact_num.specs.Gcd.{gcd_of}
 use Rattle.exact_num.proofs.GcdLaws.{gcd_of_comm, gcd_of-mod, gcd_of-sub, gcd_of-one, one-gcd_of, gcd_of-mul, mul-coprime, gcd_of-mul_coprime}
 
 -- ---- powers of 2 share nothing with an odd number

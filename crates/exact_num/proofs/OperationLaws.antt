@@ -1,15 +1,5 @@
 -- What sums and products of fractions form, and that it is their value.
-use Rattle.std.proofs.Common.{◌≡◌, ◌≢◌, ℕ, zero, suc, ◌+◌, ◌-◌, ◌*◌, ◌<◌, ℤ, pos, negsuc, ◌+ℤ◌, ◌*ℤ◌, Bool, true, false, ◌&&◌, sym, refl, ap, ap₂, ◌∙◌, subst, inl, inr, arith, lit<}
-use Rattle.std.specs.Prelude.{unsigned_abs, int_div, ◌<ℤ◌}
-use Rattle.std.specs.Int.{◌∣◌}
-use Rattle.std.proofs.lemmas.Bool.{cases_lt, cases_eq}
-use Rattle.std.proofs.lemmas.Int.{ints, unsigned_abs-mul}
-use Rattle.std.proofs.lemmas.Nat.Gcd.{dvd_trans, dvd_refl}
-use Rattle.std.proofs.Math.Nat.{dvd-mul_right, dvd-mul_left_of_dvd, dvd-add, dvd-sub, eq-one_of_dvd-one, one-dvd}
-use Rattle.exact_num.specs.Formed.{common, sum_formed, difference_formed, product_formed}
-use Rattle.exact_num.specs.Gcd.{gcd_of}
-use Rattle.exact_num.specs.Range.{InRange, in_range, all_fit}
-use Rattle.exact_num.specs.Rational.{Rational, IsLowest, pair, lowest, whole, negated, plus, times}
+use Rattle.exact_num.proofs.Common.{◌≡◌, ◌≢◌, ℕ, zero, suc, ◌+◌, ◌-◌, ◌*◌, ◌<◌, ℤ, pos, negsuc, ◌+ℤ◌, ◌*ℤ◌, Bool, true, false, ◌&&◌, sym, refl, ap, ap₂, ◌∙◌, subst, inl, inr, arith, lit<, unsigned_abs, int_div, ◌<ℤ◌, ◌∣◌, cases_lt, cases_eq, ints, unsigned_abs-mul, dvd_trans, dvd_refl, dvd-mul_right, dvd-mul_left_of_dvd, dvd-add, dvd-sub, eq-one_of_dvd-one, one-dvd, common, sum_formed, difference_formed, product_formed, gcd_of, InRange, in_range, all_fit, Rational, IsLowest, pair, lowest, whole, negated, plus, times}
 use Rattle.exact_num.proofs.GcdLaws.{gcd_of-mul_coprime, gcd_of_comm, gcd_of-dvd_left, gcd_of-dvd_right, gcd_of_pos_right, dvd-gcd_of, coprime-div, coprime-mul, mul-coprime, coprime_of_dvd, dvd_from_coprime, gcd_of-one, one-gcd_of}
 use Rattle.exact_num.proofs.Integers.{unsigned_abs-int_div, int_div-mul, nonzero_of_pos, *ℤ_nonzero, *ℤ_pos}
 use Rattle.exact_num.proofs.RationalLaws.{bottom_nonzero, lowest-mul, lowest_is, lowest-self, whole-IsLowest, common_pos}

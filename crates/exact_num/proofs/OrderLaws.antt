@@ -1,16 +1,8 @@
 -- The order of exact values: how whole parts and remainders decide it, and how it goes with sums and products.
-use Rattle.std.proofs.Common.{◌≡◌, ◌≢◌, ℕ, zero, suc, ◌+◌, ◌-◌, ◌*◌, ◌/◌, ◌%◌, ◌<◌, ℤ, pos, negsuc, neg_ℤ, ◌+ℤ◌, ◌-ℤ◌, ◌*ℤ◌, sym, refl, ap, ap₂, ◌∙◌, subst, inl, inr, arith}
-use Rattle.std.specs.Prelude.{unsigned_abs, ◌<ℤ◌, ◌≤ℤ◌}
+use Rattle.exact_num.proofs.Common.{◌≡◌, ◌≢◌, ℕ, zero, suc, ◌+◌, ◌-◌, ◌*◌, ◌/◌, ◌%◌, ◌<◌, ℤ, pos, negsuc, neg_ℤ, ◌+ℤ◌, ◌-ℤ◌, ◌*ℤ◌, sym, refl, ap, ap₂, ◌∙◌, subst, inl, inr, arith, unsigned_abs, ◌<ℤ◌, ◌≤ℤ◌, Less, Equal, Greater, nat_cmp, int_cmp, MatchOrdering, ordering_reverse, cases_order, nat_tests, ints, mul-lt-mul_of_pos_left, mul_comm, Rational, IsLowest, lowest, whole, plus, minus, times, order_of}
 use Rattle.std.specs.declared.cmp.Ordering.{Ordering}
-use Rattle.std.specs.declared.cmp.Ordering.TheVariants.{Less, Equal, Greater}
-use Rattle.std.specs.Ordering.{nat_cmp, int_cmp, MatchOrdering, ordering_reverse}
 use Rattle.std.proofs.lemmas.Cmp.{int_cmp_total}
 use Rattle.std.specs.Cmp.{int_cmp_is, int_ranks}
-use Rattle.std.proofs.lemmas.Bool.{cases_order}
-use Rattle.std.proofs.lemmas.Bool.Decides.{nat_tests}
-use Rattle.std.proofs.lemmas.Int.{ints}
-use Rattle.std.proofs.Math.Nat.{mul-lt-mul_of_pos_left, mul_comm}
-use Rattle.exact_num.specs.Rational.{Rational, IsLowest, lowest, whole, plus, minus, times, order_of}
 use Rattle.exact_num.proofs.ArithmeticLaws.{lowest-zero, minus-plus_both}
 use Rattle.exact_num.proofs.Integers.{*ℤ_pos, *ℤ-<ℤ, <ℤ_cancel, nonzero_of_pos}
 use Rattle.exact_num.proofs.RationalLaws.{bottom_nonzero, lowest-cross, lowest-IsLowest, lowest-self, lowest_unique, plus-IsLowest, times-IsLowest, times-cross}

@@ -1,12 +1,6 @@
 -- Which numbers fit, as a test and as a fact.
-use Rattle.std.proofs.Common.{◌≡◌, ◌<◌, ◌≤◌, ◌^◌, ℤ, neg_ℤ, ◌*ℤ◌, true, false, sym, refl, ap, ◌∙◌, inl, inr, arith, to_z, of_z, lit<}
-use Rattle.std.proofs.lemmas.Bool.{cases_lt}
-use Rattle.std.specs.Prelude.{nat_lt, unsigned_abs, FitsSigned, Result, Ok, Err, IsErr, IfOk, is_ok}
-use Rattle.std.specs.Int.{w128}
-use Rattle.std.proofs.lemmas.Int.{ints, to_z-of_z, fits_signed_mul}
-use Rattle.std.proofs.lemmas.Bool.Decides.{nat_tests}
+use Rattle.exact_num.proofs.Common.{◌≡◌, ◌<◌, ◌≤◌, ◌^◌, ℤ, neg_ℤ, ◌*ℤ◌, true, false, sym, refl, ap, ◌∙◌, inl, inr, arith, to_z, of_z, lit<, cases_lt, nat_lt, unsigned_abs, FitsSigned, Result, Ok, Err, IsErr, IfOk, is_ok, w128, ints, to_z-of_z, fits_signed_mul, nat_tests, InRange, in_range}
 use Rattle.exact_num.proofs.Integers.{unsigned_abs-neg_ℤ}
-use Rattle.exact_num.specs.Range.{InRange, in_range}
 
 pub in_range-yes : (z : ℤ) → InRange z → in_range z ≡ true
 unfolding in_range

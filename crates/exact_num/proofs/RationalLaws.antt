@@ -1,13 +1,5 @@
 -- The laws of exact values: each number is one pair, and sums and products of such pairs obey the laws of arithmetic.
-use Rattle.std.proofs.Common.{◌≡◌, ◌≢◌, ℕ, zero, suc, ◌*◌, ◌/◌, ◌<◌, ℤ, pos, negsuc, neg_ℤ, ◌+ℤ◌, ◌-ℤ◌, ◌*ℤ◌, sym, refl, ap, ap₂, ◌∙◌, subst, arith}
-use Rattle.std.specs.Prelude.{unsigned_abs, int_div, ◌<ℤ◌, ◌≤ℤ◌}
-use Rattle.std.specs.Int.{◌∣◌}
-use Rattle.std.proofs.lemmas.Int.{ints, unsigned_abs-mul}
-use Rattle.std.proofs.lemmas.Nat.Gcd.{dvd_antisymm}
-use Rattle.std.proofs.Math.Nat.{dvd-mul_left, div-mul_cancel}
-use Rattle.exact_num.specs.Gcd.{gcd_of}
-use Rattle.exact_num.specs.Formed.{common}
-use Rattle.exact_num.specs.Rational.{Rational, pair, IsLowest, signed_by, lowest, whole, negated, reciprocal, plus, minus, times, divided}
+use Rattle.exact_num.proofs.Common.{◌≡◌, ◌≢◌, ℕ, zero, suc, ◌*◌, ◌/◌, ◌<◌, ℤ, pos, negsuc, neg_ℤ, ◌+ℤ◌, ◌-ℤ◌, ◌*ℤ◌, sym, refl, ap, ap₂, ◌∙◌, subst, arith, unsigned_abs, int_div, ◌<ℤ◌, ◌≤ℤ◌, ◌∣◌, ints, unsigned_abs-mul, dvd_antisymm, dvd-mul_left, div-mul_cancel, gcd_of, common, Rational, pair, IsLowest, signed_by, lowest, whole, negated, reciprocal, plus, minus, times, divided}
 use Rattle.exact_num.proofs.GcdLaws.{gcd_of_comm, gcd_of-dvd_left, gcd_of-dvd_right, gcd_of_pos_right, coprime-div, dvd_from_coprime, gcd_of-one}
 use Rattle.exact_num.proofs.Integers.{unsigned_abs-signed_by, unsigned_abs-int_div, unsigned_abs_pos, unsigned_abs-neg_ℤ, pos-unsigned_abs, int_div-mul, signed_by-mul, *ℤ_cancel, nonzero_of_pos, *ℤ_nonzero}
 use Rattle.exact_num.proofs.Ring.{products, *ℤ_assoc, neg_ℤ-*ℤ, *ℤ-neg_ℤ}

@@ -1,7 +1,5 @@
 -- The ring laws over ℤ, and a set of them by which `simp ring` brings both sides of an equation to one form.
-use Rattle.std.proofs.Common.{◌≡◌, ℤ, pos, ◌+ℤ◌, ◌-ℤ◌, ◌*ℤ◌, neg_ℤ, sym, ap, ◌∙◌, refl, arith, ℕ, ◌*◌}
-use Rattle.std.proofs.lemmas.Int.{ints}
-use borrow.Author.Differences.{up, down, sum_is_lem, product_is, neg_is}
+use Rattle.exact_num.proofs.Common.{◌≡◌, ℤ, pos, ◌+ℤ◌, ◌-ℤ◌, ◌*ℤ◌, neg_ℤ, sym, ap, ◌∙◌, refl, arith, ℕ, ◌*◌, ints, up, down, sum_is_lem, product_is, neg_is}
 
 -- an equation of naturals times k
 times : (k : ℕ) {m n : ℕ} → m ≡ n → m * k ≡ n * k

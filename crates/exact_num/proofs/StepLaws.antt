@@ -1,9 +1,6 @@
 -- Lists of formed numbers and lists of steps, taken apart and joined.
-use Rattle.std.proofs.Common.{◌≡◌, ℤ, Bool, true, false, ◌&&◌, List, [], ◌∷◌, ◌++◌, Option, Some, None, refl, ap, sym, ◌∙◌, cond}
-use Rattle.std.specs.Prelude.{is_none, flat_map}
+use Rattle.exact_num.proofs.Common.{◌≡◌, ℤ, Bool, true, false, ◌&&◌, List, [], ◌∷◌, ◌++◌, Option, Some, None, refl, ap, sym, ◌∙◌, cond, is_none, flat_map, in_range, all_fit, Step, first_wide}
 use Rattle.std.specs.Option.{option_or}
-use Rattle.exact_num.specs.Range.{in_range, all_fit}
-use Rattle.exact_num.specs.Steps.{Step, first_wide}
 
 pub all_fit-nil : all_fit [] ≡ true
 unfolding all_fit

@@ -1,7 +1,5 @@
 -- What every fraction keeps, said of its exact value.
-use Rattle.std.proofs.Common.{◌≡◌, ap}
-use Rattle.exact_num.specs.Rational.{Rational, IsLowest}
-use Rattle.exact_num.specs.Value.{value_of}
+use Rattle.exact_num.proofs.Common.{◌≡◌, ap, Rational, IsLowest, value_of}
 use Rattle.exact_num.specs.declared.fraction.Frac.{Frac}
 
 -- a fraction's value is in lowest terms

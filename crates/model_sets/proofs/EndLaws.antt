@@ -1,7 +1,5 @@
 -- The least and the greatest of a list of numbers are among them, and none lies beyond.
-use Rattle.std.proofs.Common.{◌≡◌, ℕ, zero, suc, ◌<◌, ◌≤◌, min, max, leb, fold, List, [], ◌∷◌, length, refl, sym, ◌∙◌, ◌⊎◌, inl, inr, arith, All, Contains}
-use Rattle.std.proofs.lemmas.Bool.{cases_Bool, leb-true, leb-false}
-use Rattle.model_sets.specs.Years.{least, greatest, IsLeast, IsGreatest}
+use Rattle.model_sets.proofs.Common.{◌≡◌, ℕ, zero, suc, ◌<◌, ◌≤◌, min, max, leb, fold, List, [], ◌∷◌, length, refl, sym, ◌∙◌, ◌⊎◌, inl, inr, arith, All, Contains, cases_Bool, leb-true, leb-false, least, greatest, IsLeast, IsGreatest}
 
 min_is : (a b : ℕ) → (min a b ≡ a) ⊎ (min a b ≡ b)
 min_is a b = elim (cases_Bool (leb a b)) [

@@ -1,14 +1,8 @@
 -- The definitions computed on worked examples, and on near misses.
-use Rattle.std.proofs.Common.{arith, ◌≡◌, ℕ, pos, List, [], ◌∷◌, true, false, Some, None, refl, map}
+use Rattle.model_sets.proofs.Common.{arith, ◌≡◌, ℕ, pos, List, [], ◌∷◌, true, false, Some, None, refl, map, digits, AreSameData, Data, IsUsedParam, value_at, indices_of, indices_over, SetLists, no_members, members, with_member, index_of, first_refusal, first_empty, years, first_year, last_year, KeepsRules, IsDistinct, set_word, limit_of, IsYear, is_year, least, greatest}
 use Rattle.std.specs.Prelude.{codes, ◌++◌}
-use Rattle.std.specs.Fmt.{digits}
-use Rattle.model_sets.specs.Data.{AreSameData, Data, IsUsedParam, value_at, indices_of, indices_over}
-use Rattle.model_sets.specs.Members.{SetLists, no_members, members, with_member, index_of, first_refusal, first_empty, years, first_year, last_year, KeepsRules}
-use Rattle.std.specs.List.{IsDistinct}
 use Rattle.model_sets.specs.Refusals.{IsDueTo}
 use Rattle.model_sets.specs.declared.fault.SetFail.TheVariants.{Fault, Memory}
-use Rattle.model_sets.specs.Names.{set_word, limit_of}
-use Rattle.model_sets.specs.Years.{IsYear, is_year, least, greatest}
 
 -- ---- years
 

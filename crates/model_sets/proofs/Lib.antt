@@ -1,3 +1,4 @@
+mod Common
 pub mod EndLaws
 mod Examples
 pub mod NameLists

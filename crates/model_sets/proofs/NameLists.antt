@@ -1,7 +1,5 @@
 -- Lists of names, and lists of the vectors that hold them.
-use Rattle.std.proofs.Common.{◌≡◌, Bool, false, ◌||◌, List, [], ◌∷◌, ◌++◌, map, length, position, suc, if◌then◌else◌, refl, sym, ap, ◌∙◌, arith}
-use Rattle.std.specs.List.{list_any, IsDistinct, AllByRecursion, position_or_len}
-use Rattle.std.proofs.lemmas.List.{map-append}
+use Rattle.model_sets.proofs.Common.{◌≡◌, Bool, false, ◌||◌, List, [], ◌∷◌, ◌++◌, map, length, position, suc, if◌then◌else◌, refl, sym, ap, ◌∙◌, arith, list_any, IsDistinct, AllByRecursion, position_or_len, map-append}
 use Rattle.indexmap.specs.IndexSet.{insert_key}
 
 module _ {X Y : Type 0} (f : X → Y) (p : Y → Bool) where

@@ -1,14 +1,9 @@
 -- The tables of sets and parameters, computed: each number names its word, and what the entries say.
-use Rattle.std.proofs.Common.{◌≡◌, ℕ, Bool, true, false, ◌∷◌, [], ◌++◌, List, Some, None, refl, map, length}
-use Rattle.std.specs.Prelude.{codes, filter}
-use Rattle.std.specs.List.{range_with_len}
+use Rattle.model_sets.proofs.Common.{◌≡◌, ℕ, Bool, true, false, ◌∷◌, [], ◌++◌, List, Some, None, refl, map, length, codes, filter, range_with_len, unit_capacity, set_number, set_word, set_words, limits, set_count, is_used, param_at, param_count, param_number, param_word, param_words, params, range_of, results_path, subscript_count, subscript_sets}
 use Rattle.model_sets.specs.declared.set_numbers.TheConstants.{REGION, TECHNOLOGY, FUEL, EMISSION, MODE_OF_OPERATION, TIMESLICE, YEAR, STORAGE, SEASON, DAYTYPE, DAILYTIMEBRACKET, SET_COUNT}
 use Rattle.model_sets.specs.declared.param_numbers.TheConstants.{YEAR_SPLIT, DISCOUNT_RATE, DEPRECIATION_METHOD, TRADE_ROUTE, SPECIFIED_ANNUAL_DEMAND, SPECIFIED_DEMAND_PROFILE, ACCUMULATED_ANNUAL_DEMAND, CAPACITY_TO_ACTIVITY_UNIT, CAPACITY_FACTOR, AVAILABILITY_FACTOR, OPERATIONAL_LIFE, RESIDUAL_CAPACITY, INPUT_ACTIVITY_RATIO, OUTPUT_ACTIVITY_RATIO, CAPITAL_COST, VARIABLE_COST, FIXED_COST, CAPACITY_OF_ONE_TECHNOLOGY_UNIT, TOTAL_ANNUAL_MAX_CAPACITY, TOTAL_ANNUAL_MIN_CAPACITY, TOTAL_ANNUAL_MAX_CAPACITY_INVESTMENT, TOTAL_ANNUAL_MIN_CAPACITY_INVESTMENT, TOTAL_TECHNOLOGY_ANNUAL_ACTIVITY_UPPER_LIMIT, TOTAL_TECHNOLOGY_ANNUAL_ACTIVITY_LOWER_LIMIT, TOTAL_TECHNOLOGY_MODEL_PERIOD_ACTIVITY_UPPER_LIMIT, TOTAL_TECHNOLOGY_MODEL_PERIOD_ACTIVITY_LOWER_LIMIT, RESERVE_MARGIN_TAG_TECHNOLOGY, RESERVE_MARGIN_TAG_FUEL, RESERVE_MARGIN, RE_TAG_TECHNOLOGY, RE_TAG_FUEL, RE_MIN_PRODUCTION_TARGET, EMISSION_ACTIVITY_RATIO, EMISSIONS_PENALTY, ANNUAL_EXOGENOUS_EMISSION, ANNUAL_EMISSION_LIMIT, MODEL_PERIOD_EXOGENOUS_EMISSION, MODEL_PERIOD_EMISSION_LIMIT, CONVERSIONLS, CONVERSIONLD, CONVERSIONLH, DAY_SPLIT, DAYS_IN_DAY_TYPE, RESULTS_PATH, TECHNOLOGY_TO_STORAGE, TECHNOLOGY_FROM_STORAGE, STORAGE_LEVEL_START, STORAGE_MAX_CHARGE_RATE, STORAGE_MAX_DISCHARGE_RATE, MIN_STORAGE_CHARGE, OPERATIONAL_LIFE_STORAGE, CAPITAL_COST_STORAGE, RESIDUAL_STORAGE_CAPACITY, DISCOUNT_RATE_STORAGE, DISCOUNT_RATE_IDV, USED_PARAM_COUNT, PARAM_COUNT}
 use Rattle.model_sets.specs.declared.params.Range.{Range}
 use Rattle.model_sets.specs.declared.params.Range.TheVariants.{Any, AtLeastZero, AboveZero, ZeroToOne, OneOrTwo, Lifetime, ZeroOnly, MinusOneOrAtLeastZero}
-use Rattle.model_sets.specs.Data.{unit_capacity}
-use Rattle.model_sets.specs.Names.{set_number, set_word, set_words, limits, set_count}
-use Rattle.model_sets.specs.Params.{is_used, param_at, param_count, param_number, param_word, param_words, params, range_of, results_path, subscript_count, subscript_sets}
 
 -- ---- sets
 

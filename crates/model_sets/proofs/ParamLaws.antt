@@ -1,11 +1,7 @@
 -- What holds of every entry of the table of parameters.
-use Rattle.std.proofs.Common.{◌≡◌, ℕ, ◌-◌, ◌≤◌, Bool, true, false, ◌&&◌, length, get_or, refl, arith, All}
+use Rattle.model_sets.proofs.Common.{◌≡◌, ℕ, ◌-◌, ◌≤◌, Bool, true, false, ◌&&◌, length, get_or, refl, arith, All, list_all, leb-true, IsSet, set_count, IsParam, Param, no_param, param_at, params, subscript_sets}
 use Rattle.std.specs.Prelude.{nat_le}
-use Rattle.std.specs.List.{list_all}
-use Rattle.std.proofs.lemmas.Bool.{leb-true}
 use Rattle.std.proofs.lemmas.List.Sums.{AllPass-from_list_all}
-use Rattle.model_sets.specs.Names.{IsSet, set_count}
-use Rattle.model_sets.specs.Params.{IsParam, Param, no_param, param_at, params, subscript_sets}
 
 -- whether k is the number of a set
 is_set : ℕ → Bool

@@ -1,13 +1,6 @@
 -- What the sets keep, from the empty ones on.
-use Rattle.std.proofs.Common.{◌≡◌, ◌≢◌, ℕ, ◌+◌, ◌-◌, ◌<◌, Bool, true, false, not, ◌&&◌, List, [], ◌∷◌, ◌++◌, length, nat_eq, nat_le, Option, None, Some, if◌then◌else◌, refl, sym, subst, ◌∙◌, arith, inl, inr}
-use Rattle.std.specs.List.{IsDistinct}
-use Rattle.std.specs.Str.{bytes_eq}
-use Rattle.std.proofs.lemmas.Bool.{cases_eq, eq-eqb, leb-false}
-use Rattle.std.proofs.lemmas.List.{get_or-set_same, get_or-set_other, length-set, length-append, get_or-replicate}
+use Rattle.model_sets.proofs.Common.{◌≡◌, ◌≢◌, ℕ, ◌+◌, ◌-◌, ◌<◌, Bool, true, false, not, ◌&&◌, List, [], ◌∷◌, ◌++◌, length, nat_eq, nat_le, Option, None, Some, if◌then◌else◌, refl, sym, subst, ◌∙◌, arith, inl, inr, IsDistinct, bytes_eq, cases_eq, eq-eqb, leb-false, get_or-set_same, get_or-set_other, length-set, length-append, get_or-replicate, IsSet, set_count, year, limit_of, is_year, SetLists, no_members, members, with_member, is_among, first_refusal, twice_in_set, bad_year, too_many, KeepsRules, AreSets}
 use Rattle.std.proofs.lemmas.List.Elements.{All-push}
-use Rattle.model_sets.specs.Names.{IsSet, set_count, year, limit_of}
-use Rattle.model_sets.specs.Years.{is_year}
-use Rattle.model_sets.specs.Members.{SetLists, no_members, members, with_member, is_among, first_refusal, twice_in_set, bad_year, too_many, KeepsRules, AreSets}
 
 -- no rule of the three refuses
 none_refused : (a b c : Bool) → (if a then Some bad_year else if b then Some twice_in_set else if c then Some too_many else None) ≡ None → (a ≡ false) × (b ≡ false) × (c ≡ false)

@@ -1,8 +1,7 @@
 -- Reading a table that describes another one, and looking a word up.
-use Rattle.std.proofs.Common.{◌≡◌, ℕ, ◌+◌, ◌<◌, ◌≤◌, Bool, true, false, cond, List, [], length, map, drop, get_or, Option, Some, None, option_map, refl, sym, ap, ◌∙◌, subst}
+use Rattle.model_sets.proofs.Common.{◌≡◌, ℕ, ◌+◌, ◌<◌, ◌≤◌, Bool, true, false, cond, List, [], length, map, drop, get_or, Option, Some, None, option_map, refl, sym, ap, ◌∙◌, subst, get_or-map, length-map, drop_more, drop_all}
 use Rattle.std.specs.List.{position, position_from}
 use Rattle.std.proofs.lemmas.Iterator.Adapters.{position_from-zero}
-use Rattle.std.proofs.lemmas.List.{get_or-map, length-map, drop_more, drop_all}
 
 -- the entry at a place of the one describes the entry there of the other
 pub described_entry : {A B : Type 0} (f : A → B) (xs : List A) (ys : List B) (i : ℕ) (d : A) (e : B) → map f xs ≡ ys → i < length ys → f (get_or xs i d) ≡ get_or ys i e

@@ -1,14 +1,8 @@
 -- Reading the digits of a year from the left.
-use Rattle.std.proofs.Common.{◌≡◌, ℕ, ◌+◌, ◌-◌, ◌*◌, ◌^◌, ◌<◌, ◌≤◌, true, false, ◌&&◌, nat_le, fold, List, [], ◌∷◌, length, get_or, Some, None, Option, IfSome, IsSome, refl, sym, ap, subst, ◌∙◌, ◌⊎◌, if◌then◌else◌, arith, rules, inl, inr}
-use Rattle.std.specs.Char.{is_ascii_digit}
-use Rattle.std.specs.Fmt.{decimal}
-use Rattle.std.specs.List.{list_all}
-use Rattle.std.specs.Str.{bytes_eq}
-use Rattle.std.proofs.lemmas.Bool.{cases_Bool, cases_eq, and_parts, and_from, and_right, leb-true, le-leb}
+use Rattle.model_sets.proofs.Common.{◌≡◌, ℕ, ◌+◌, ◌-◌, ◌*◌, ◌^◌, ◌<◌, ◌≤◌, true, false, ◌&&◌, nat_le, fold, List, [], ◌∷◌, length, get_or, Some, None, Option, IfSome, IsSome, refl, sym, ap, subst, ◌∙◌, ◌⊎◌, if◌then◌else◌, arith, rules, inl, inr, is_ascii_digit, decimal, list_all, bytes_eq, cases_Bool, cases_eq, and_parts, and_from, and_right, leb-true, le-leb, IsYear, is_year, number_of}
 use Rattle.std.proofs.lemmas.Slice.Eq.{bytes_eq-Decides}
 use Rattle.std.proofs.lemmas.Str.Parse.{IsNumeralModel, numerals_by_fold}
 use Rattle.std.proofs.lemmas.Fmt.{decimal-digits_value, digits_decimal, digits_value-decimal, decimal_nonempty, first_decimal, decimal_digit}
-use Rattle.model_sets.specs.Years.{IsYear, is_year, number_of}
 
 -- the number that further digits make of n
 abbrev pub read_on : ℕ → List ℕ → ℕ

@@ -1,14 +1,5 @@
 -- The number that the parts of a text write.
-use Rattle.std.proofs.Common.{◌≡◌, ℕ, ◌+◌, ◌*◌, ◌<◌, ◌≤◌, ◌^◌, List, true, false, Bool, not, cond, eqb, ltb, ℤ, pow-add, sym, refl, ap, ap₂, ◌∙◌, arith, Result, Ok, Err, lit<}
-use Rattle.std.specs.Prelude.{min, unsigned_abs, IfOk}
-use Rattle.std.proofs.Math.Nat.{mul_comm}
-use Rattle.std.proofs.lemmas.Bool.{ltb-false}
-use Rattle.scaled_decimals.specs.declared.reading.DecFault.{DecFault}
-use Rattle.scaled_decimals.specs.declared.reading.DecFault.TheVariants.{NotNumber, TooLarge}
-use Rattle.scaled_decimals.specs.DecimalReading.{mantissa, raised, lowered, numerator, denominator, billionths, is_above, is_rounded, with_sign, read_ratio, decimal_of, Reads}
-use Rattle.scaled_decimals.specs.Rounding.{nearest}
-use Rattle.scaled_decimals.specs.NumberText.{NumberText, Spells, is_minus}
-use Rattle.scaled_decimals.specs.PartsReading.{IsKept}
+use Rattle.scaled_decimals.proofs.Common.{◌≡◌, ℕ, ◌+◌, ◌*◌, ◌<◌, ◌≤◌, ◌^◌, List, true, false, Bool, not, cond, eqb, ltb, ℤ, pow-add, sym, refl, ap, ap₂, ◌∙◌, arith, Result, Ok, Err, lit<, min, unsigned_abs, IfOk, mul_comm, ltb-false, DecFault, NotNumber, TooLarge, mantissa, raised, lowered, numerator, denominator, billionths, is_above, is_rounded, with_sign, read_ratio, decimal_of, Reads, nearest, NumberText, Spells, is_minus, IsKept}
 use Rattle.scaled_decimals.proofs.RatioLemmas.{ltb-scale, nearest_within}
 use Rattle.scaled_decimals.proofs.DigitLemmas.{ten_pos}
 use Rattle.scaled_decimals.proofs.FractionLemmas.{unsigned_abs-with_sign}

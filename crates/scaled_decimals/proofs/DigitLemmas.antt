@@ -1,17 +1,6 @@
 -- Numbers that digits write, powers of ten, and runs of digits.
-use Rattle.std.proofs.Common.{◌≡◌, ℕ, ◌+◌, ◌-◌, ◌*◌, ◌^◌, ◌<◌, ◌≤◌, List, [], ◌∷◌, ◌++◌, length, true, false, Bool, cond, sym, refl, ap, ◌∙◌, inl, inr, arith, get_or, take, drop, subst, lit≤}
-use Rattle.std.proofs.lemmas.Bool.{cases_lt, false≢true}
-use Rattle.std.specs.Prelude.{min, ◌&&◌}
-use Rattle.std.specs.Char.{is_ascii_digit}
-use Rattle.std.specs.List.{prefix_len}
-use Rattle.std.proofs.Math.Nat.{pow-suc, one-le-pow, pow-le-pow_right}
-use Rattle.std.proofs.Math.Seq.{take-append_seam, drop-append_seam, take-length}
-use Rattle.std.proofs.Math.Numerals.{one-add}
-use Rattle.std.proofs.lemmas.List.{drop_more}
-use Rattle.std.proofs.lemmas.Bool.Decides.{nat_tests}
+use Rattle.scaled_decimals.proofs.Common.{◌≡◌, ℕ, ◌+◌, ◌-◌, ◌*◌, ◌^◌, ◌<◌, ◌≤◌, List, [], ◌∷◌, ◌++◌, length, true, false, Bool, cond, sym, refl, ap, ◌∙◌, inl, inr, arith, get_or, take, drop, subst, lit≤, cases_lt, false≢true, min, ◌&&◌, is_ascii_digit, prefix_len, pow-suc, one-le-pow, pow-le-pow_right, take-append_seam, drop-append_seam, take-length, one-add, drop_more, nat_tests, AreDigits, number_of, continued, digits_in_front, after_digits}
 use Rattle.std.specs.Str.{all_ascii_digits}
-use Rattle.scaled_decimals.specs.Digits.{AreDigits, number_of, continued}
-use Rattle.scaled_decimals.specs.PartsReading.{digits_in_front, after_digits}
 
 pub continued-none : (n : ℕ) → continued n [] ≡ n
 unfolding continued number_of

@@ -1,10 +1,5 @@
 -- A numerator and a denominator that fit, and ones that don't.
-use Rattle.std.proofs.Common.{◌≡◌, ℕ, ◌^◌, ◌<◌, ◌≤◌, pos, [], ◌∷◌, true, false, Bool, refl, ap, ap₂, ◌∙◌, arith}
-use Rattle.std.specs.Prelude.{◌&&◌, unsigned_abs}
-use Rattle.std.proofs.lemmas.Int.{ints}
-use Rattle.exact_num.specs.Range.{InRange, in_range, all_fit}
-use Rattle.exact_num.proofs.RangeLaws.{in_range-yes, in_range-no}
-use Rattle.scaled_decimals.specs.DecimalReading.{with_sign}
+use Rattle.scaled_decimals.proofs.Common.{◌≡◌, ℕ, ◌^◌, ◌<◌, ◌≤◌, pos, [], ◌∷◌, true, false, Bool, refl, ap, ap₂, ◌∙◌, arith, ◌&&◌, unsigned_abs, ints, InRange, in_range, all_fit, in_range-yes, in_range-no, with_sign}
 
 pub unsigned_abs-with_sign : (negative : Bool) (n : ℕ) → unsigned_abs (with_sign negative n) ≡ n
 unsigned_abs-with_sign true n = omega (arith, ints)

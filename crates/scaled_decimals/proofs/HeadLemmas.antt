@@ -1,12 +1,6 @@
 -- The first digits of a number, with one more digit after them.
-use Rattle.std.proofs.Common.{◌≡◌, ℕ, ◌+◌, ◌*◌, ◌^◌, ◌<◌, ◌≤◌, false, Bool, not, eqb, refl, ap, ap₂, ◌∙◌, inl, inr, arith}
-use Rattle.std.specs.Prelude.{◌||◌}
-use Rattle.std.proofs.lemmas.Bool.{cases_lt}
-use Rattle.std.proofs.lemmas.Bool.Decides.{nat_tests}
-use Rattle.std.proofs.Math.Nat.{pow-suc}
+use Rattle.scaled_decimals.proofs.Common.{◌≡◌, ℕ, ◌+◌, ◌*◌, ◌^◌, ◌<◌, ◌≤◌, false, Bool, not, eqb, refl, ap, ap₂, ◌∙◌, inl, inr, arith, ◌||◌, cases_lt, nat_tests, pow-suc, IsHead, Head}
 use Rattle.std.proofs.Math.Numerals.{add-one}
-use Rattle.scaled_decimals.specs.PartsReading.{IsHead}
-use Rattle.scaled_decimals.specs.declared.reading.head.Head.{Head}
 
 -- no digits write 0
 pub IsHead-none : IsHead (record { value = 0; dropped = 0; rest = false }) 0

@@ -1,29 +1,8 @@
 -- A fraction's printed text reads as that fraction.
-use Rattle.std.proofs.Common.{◌≡◌, ℕ, ◌+◌, ◌-◌, ◌*◌, ◌^◌, ◌<◌, ℤ, pos, negsuc, List, [], ◌∷◌, ◌++◌, true, false, Bool, suc, sym, refl, ap, ap₂, ◌∙◌, arith, subst, Result, Ok, Err, append-nil}
+use Rattle.scaled_decimals.proofs.Common.{◌≡◌, ℕ, ◌+◌, ◌-◌, ◌*◌, ◌^◌, ◌<◌, ℤ, pos, negsuc, List, [], ◌∷◌, ◌++◌, true, false, Bool, suc, sym, refl, ap, ap₂, ◌∙◌, arith, subst, Result, Ok, Err, append-nil, digit_value, is_ascii_digit, signed_decimal, IsInRange, AllDigits, digits_value_after, false≢true, eqb-true, nat_tests, decimal_is_IsNumeral_wide, ints, digit_value_digit, digit_from_value, all_fit, Rational, lowest, value_of, Frac, DecFault, NotNumber, TooLarge, with_sign, AreDigits, IsNumeral, number_of, continued, ReadsValue, Form, Whole, Quotient, FractionText, IsFormed, SpellsValue, form_bytes, above_of, below_of, top_of, bottom_of, fraction_text}
 use Rattle.std.specs.Prelude.{unsigned_abs, ◌==◌, if◌then◌else◌, codes, decimal, ◌<ℤ◌}
-use Rattle.std.specs.Char.{digit_value, is_ascii_digit}
-use Rattle.std.specs.Fmt.{signed_decimal}
-use Rattle.std.specs.Int.{IsInRange}
-use Rattle.std.specs.Str.Parse.{AllDigits, digits_value_after}
-use Rattle.std.proofs.lemmas.Bool.{false≢true, eqb-true}
-use Rattle.std.proofs.lemmas.Bool.Decides.{nat_tests}
-use Rattle.std.proofs.lemmas.Fmt.{decimal_is_IsNumeral_wide}
-use Rattle.std.proofs.lemmas.Int.{ints}
-use Rattle.std.proofs.lemmas.Str.{digit_value_digit}
-use Rattle.std.proofs.lemmas.Str.Parse.{digit_from_value}
-use Rattle.exact_num.specs.Range.{all_fit}
-use Rattle.exact_num.specs.Rational.{Rational, lowest}
-use Rattle.exact_num.specs.Value.{value_of}
-use Rattle.exact_num.specs.declared.fraction.Frac.{Frac}
 use Rattle.exact_num.proofs.RationalLaws.{lowest-self}
 use Rattle.exact_num.proofs.ValueLaws.{value_of-IsLowest}
-use Rattle.scaled_decimals.specs.declared.reading.DecFault.{DecFault}
-use Rattle.scaled_decimals.specs.declared.reading.DecFault.TheVariants.{NotNumber, TooLarge}
-use Rattle.scaled_decimals.specs.DecimalReading.{with_sign}
-use Rattle.scaled_decimals.specs.Digits.{AreDigits, IsNumeral, number_of, continued}
-use Rattle.scaled_decimals.specs.FractionReading.{ReadsValue}
-use Rattle.scaled_decimals.specs.FractionText.{Form, Whole, Quotient, FractionText, IsFormed, SpellsValue, form_bytes, above_of, below_of, top_of, bottom_of}
-use Rattle.scaled_decimals.specs.PrintedFraction.{fraction_text}
 use Rattle.scaled_decimals.specs.PrintedParts.{is_negative, printed_form, printed_parts, IsValue}
 use Rattle.scaled_decimals.proofs.DigitLemmas.{AreDigits-cons, continued-none, continued-cons, continued-zero}
 use Rattle.scaled_decimals.proofs.FractionLemmas.{fit_both}

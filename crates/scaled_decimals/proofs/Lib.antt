@@ -1,3 +1,4 @@
+mod Common
 mod PrintedExamples
 mod ReadingExamples
 pub mod DecimalLemmas

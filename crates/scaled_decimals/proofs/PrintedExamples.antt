@@ -1,11 +1,5 @@
 -- The printed forms computed on worked examples, and on near misses.
-use Rattle.std.proofs.Common.{◌≡◌, ◌^◌, ◌-◌, pos, negsuc, length, false, eqb, refl}
-use Rattle.std.specs.Prelude.{codes}
-use Rattle.std.specs.Fmt.{digits}
-use Rattle.exact_num.specs.Rational.{pair, whole}
-use Rattle.scaled_decimals.specs.PrintedFraction.{fraction_text}
-use Rattle.scaled_decimals.specs.PrintedPlaces.{millionths, millionths_text, places_text, before_point, after_point, read_millionths}
-use Rattle.scaled_decimals.specs.Rounding.{nearest}
+use Rattle.scaled_decimals.proofs.Common.{◌≡◌, ◌^◌, ◌-◌, pos, negsuc, length, false, eqb, refl, codes, digits, pair, whole, fraction_text, millionths, millionths_text, places_text, before_point, after_point, read_millionths, nearest}
 
 -- ---- fractions
 cost_as_fraction : fraction_text (pair (pos 120132040323) (pos 800000000)) ≡ codes "120132040323/800000000"

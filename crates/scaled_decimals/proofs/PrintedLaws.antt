@@ -1,23 +1,8 @@
 -- What the printed forms read as.
-use Rattle.std.proofs.Common.{◌≡◌, ◌≢◌, ℕ, ◌+◌, ◌*◌, ◌/◌, ◌%◌, ◌<◌, ◌≤◌, ◌^◌, ℤ, pos, negsuc, neg_ℤ, ◌*ℤ◌, ◌-ℤ◌, ◌<ℤ◌, List, [], ◌∷◌, ◌++◌, length, refl, sym, ap, ◌∙◌, arith, append_assoc, suc, lit<}
-use Rattle.std.proofs.Math.Nat.{mod-lt, div-div-eq-div-mul}
-use Rattle.std.proofs.lemmas.Int.{ints}
-use Rattle.std.proofs.lemmas.Nat.{div-add-mod', div_below}
-use Rattle.std.proofs.lemmas.Bool.Decides.{nat_tests}
-use Rattle.std.proofs.lemmas.Fmt.{decimal_is_IsNumeral_wide}
-use Rattle.std.proofs.lemmas.Str.{digit_value_digit}
-use Rattle.std.proofs.lemmas.Str.Parse.{digit_from_value}
-use Rattle.std.specs.Char.{digit_value}
-use Rattle.std.specs.Int.{IsInRange}
+use Rattle.scaled_decimals.proofs.Common.{◌≡◌, ◌≢◌, ℕ, ◌+◌, ◌*◌, ◌/◌, ◌%◌, ◌<◌, ◌≤◌, ◌^◌, ℤ, pos, negsuc, neg_ℤ, ◌*ℤ◌, ◌-ℤ◌, ◌<ℤ◌, List, [], ◌∷◌, ◌++◌, length, refl, sym, ap, ◌∙◌, arith, append_assoc, suc, lit<, mod-lt, div-div-eq-div-mul, ints, div-add-mod', div_below, nat_tests, decimal_is_IsNumeral_wide, digit_value_digit, digit_from_value, digit_value, IsInRange, signed_decimal, digits, pair, signed_by, InRange, fraction_text, millionths, millionths_text, sign_of, last_digit, six_digits, before_point, after_point, unsigned_millionths, read_millionths, nearest}
 use Rattle.std.specs.Prelude.{unsigned_abs, codes, decimal, if◌then◌else◌, ◌==◌, false}
-use Rattle.std.specs.Fmt.{signed_decimal, digits}
 use Rattle.std.specs.Str.Parse.{IsNumeral, AllDigits, digits_value, digits_value_after}
-use Rattle.exact_num.specs.Rational.{pair, signed_by}
-use Rattle.exact_num.specs.Range.{InRange}
 use Rattle.exact_num.proofs.Ring.{neg_ℤ-*ℤ}
-use Rattle.scaled_decimals.specs.PrintedFraction.{fraction_text}
-use Rattle.scaled_decimals.specs.PrintedPlaces.{millionths, millionths_text, sign_of, last_digit, six_digits, before_point, after_point, unsigned_millionths, read_millionths}
-use Rattle.scaled_decimals.specs.Rounding.{nearest}
 use Rattle.scaled_decimals.proofs.PrintedTexts.{fraction_text-whole, fraction_text-quotient, unsigned_abs-signed_by}
 
 -- ---- fractions

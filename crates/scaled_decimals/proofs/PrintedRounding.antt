@@ -1,8 +1,5 @@
 -- The nearest whole number to a quotient, from a whole number below it and what is left.
-use Rattle.std.proofs.Common.{◌≡◌, ℕ, ◌+◌, ◌-◌, ◌*◌, ◌/◌, ◌%◌, ◌^◌, ◌<◌, ◌≤◌, ap, ◌∙◌, arith, add-one}
-use Rattle.std.proofs.Math.Nat.{pow-suc, pow-le-pow_right, mul-add-div_right}
-use Rattle.std.proofs.lemmas.Nat.{div-mul-add, div-add-mod'}
-use Rattle.scaled_decimals.specs.Rounding.{nearest}
+use Rattle.scaled_decimals.proofs.Common.{◌≡◌, ℕ, ◌+◌, ◌-◌, ◌*◌, ◌/◌, ◌%◌, ◌^◌, ◌<◌, ◌≤◌, ap, ◌∙◌, arith, add-one, pow-suc, pow-le-pow_right, mul-add-div_right, div-mul-add, div-add-mod', nearest}
 
 -- less than half is left
 pub nearest-down : (n d k r : ℕ) → k * d + r ≡ n → r < d → r < d - r → nearest n d ≡ k

@@ -1,16 +1,6 @@
 -- The printed forms as the pieces that are written.
-use Rattle.std.proofs.Common.{◌≡◌, ◌≢◌, ℕ, ◌+◌, ◌*◌, ◌/◌, ◌%◌, ◌<◌, ℤ, pos, negsuc, ◌<ℤ◌, List, [], ◌++◌, refl, sym, ap, ◌∙◌, arith, append_assoc, append-nil, to_z, of_z, zero, suc}
-use Rattle.std.proofs.lemmas.Nat.{div-mul-add, mod-mul-add}
-use Rattle.std.proofs.lemmas.Bool.Decides.{nat_tests}
-use Rattle.std.specs.Int.{w128}
+use Rattle.scaled_decimals.proofs.Common.{◌≡◌, ◌≢◌, ℕ, ◌+◌, ◌*◌, ◌/◌, ◌%◌, ◌<◌, ℤ, pos, negsuc, ◌<ℤ◌, List, [], ◌++◌, refl, sym, ap, ◌∙◌, arith, append_assoc, append-nil, to_z, of_z, zero, suc, div-mul-add, mod-mul-add, nat_tests, w128, signed_decimal, InRange, pair, signed_by, back_in_range, fraction_text, denominator_text, millionths, millionths_text, places_text, sign_of, six_digits, nearest}
 use Rattle.std.specs.Prelude.{Result, Ok, Err, OnOk, is_ok, unsigned_abs, codes, decimal, if◌then◌else◌, ◌==◌, false}
-use Rattle.std.specs.Fmt.{signed_decimal}
-use Rattle.exact_num.specs.Range.{InRange}
-use Rattle.exact_num.specs.Rational.{pair, signed_by}
-use Rattle.exact_num.proofs.RangeLaws.{back_in_range}
-use Rattle.scaled_decimals.specs.PrintedFraction.{fraction_text, denominator_text}
-use Rattle.scaled_decimals.specs.PrintedPlaces.{millionths, millionths_text, places_text, sign_of, six_digits}
-use Rattle.scaled_decimals.specs.Rounding.{nearest}
 
 -- what was appended is the text that is due
 pub OnOk-appended : {T E : Type 0} (r : Result T E) (new old written due : List ℕ) → new ≡ (if is_ok r then old ++ written else old) → written ≡ due → OnOk r (new ≡ old ++ due)

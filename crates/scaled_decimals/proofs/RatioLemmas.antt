@@ -1,14 +1,5 @@
 -- The nearest whole number to a fraction, and what a fraction reads as.
-use Rattle.std.proofs.Common.{◌≡◌, ℕ, ◌+◌, ◌*◌, ◌/◌, ◌^◌, ◌<◌, ◌≤◌, true, false, Bool, not, eqb, ltb, sym, refl, ap, ap₂, ◌∙◌, inl, inr, arith, ℤ, Result, Ok, Err}
-use Rattle.std.proofs.lemmas.Bool.{lt-ltb, le-ltb}
-use Rattle.std.specs.Prelude.{if◌then◌else◌}
-use Rattle.scaled_decimals.specs.declared.reading.DecFault.{DecFault}
-use Rattle.scaled_decimals.specs.declared.reading.DecFault.TheVariants.{TooLarge}
-use Rattle.std.proofs.lemmas.Bool.{cases_lt}
-use Rattle.std.proofs.lemmas.Bool.Decides.{nat_tests}
-use Rattle.std.proofs.Math.Nat.{div-eq_of_lt-le, mul-div-mul_right, mul_assoc, mul-le-mul_right, mul-lt-mul_of_pos_right, mul-div-le, lt-mul-div-succ}
-use Rattle.scaled_decimals.specs.DecimalReading.{read_ratio, with_sign}
-use Rattle.scaled_decimals.specs.Rounding.{nearest}
+use Rattle.scaled_decimals.proofs.Common.{◌≡◌, ℕ, ◌+◌, ◌*◌, ◌/◌, ◌^◌, ◌<◌, ◌≤◌, true, false, Bool, not, eqb, ltb, sym, refl, ap, ap₂, ◌∙◌, inl, inr, arith, ℤ, Result, Ok, Err, lt-ltb, le-ltb, if◌then◌else◌, DecFault, TooLarge, cases_lt, nat_tests, div-eq_of_lt-le, mul-div-mul_right, mul_assoc, mul-le-mul_right, mul-lt-mul_of_pos_right, mul-div-le, lt-mul-div-succ, read_ratio, with_sign, nearest}
 
 -- the nearest whole number is the one from one half below to one half above
 pub nearest_is : (q n d : ℕ) → 0 < d → 2 * (q * d) ≤ 2 * n + d → 2 * n + d < 2 * (q * d) + 2 * d → nearest n d ≡ q

@@ -1,14 +1,6 @@
 -- The definitions of texts and of their values, computed on worked examples and on near misses.
-use Rattle.std.proofs.Common.{◌≡◌, ◌^◌, ℕ, pos, negsuc, List, [], ◌∷◌, true, false, Some, None, Ok, Err, refl}
-use Rattle.std.specs.Prelude.{codes}
-use Rattle.exact_num.specs.Range.{all_fit, in_range}
-use Rattle.exact_num.specs.Rational.{pair, lowest}
+use Rattle.scaled_decimals.proofs.Common.{◌≡◌, ◌^◌, ℕ, pos, negsuc, List, [], ◌∷◌, true, false, Some, None, Ok, Err, refl, codes, all_fit, in_range, pair, lowest, TooLarge, numerator, denominator, decimal_of, is_above, nearest, number_of, FractionText, Whole, Quotient, Decimal, SpellsValue, top_of, bottom_of}
 use Rattle.exact_num.specs.Gcd.{gcd_of, gcd_within}
-use Rattle.scaled_decimals.specs.declared.reading.DecFault.TheVariants.{TooLarge}
-use Rattle.scaled_decimals.specs.DecimalReading.{numerator, denominator, decimal_of, is_above}
-use Rattle.scaled_decimals.specs.Rounding.{nearest}
-use Rattle.scaled_decimals.specs.Digits.{number_of}
-use Rattle.scaled_decimals.specs.FractionText.{FractionText, Whole, Quotient, Decimal, SpellsValue, top_of, bottom_of}
 use Rattle.scaled_decimals.specs.FractionText as value
 use Rattle.scaled_decimals.specs.NumberText.{Sign, Bare, Plus, Minus, NumberText, IsFormed, spelling}
 

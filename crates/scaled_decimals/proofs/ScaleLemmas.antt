@@ -1,14 +1,5 @@
 -- A number of which the first digits are kept, times and over powers of ten.
-use Rattle.std.proofs.Common.{◌≡◌, ℕ, zero, suc, ◌+◌, ◌-◌, ◌*◌, ◌/◌, ◌%◌, ◌^◌, ◌<◌, ◌≤◌, pos, true, false, Bool, not, eqb, ltb, pow-add, sym, refl, ap, ap₂, ◌∙◌, inl, inr, arith, Ok, Err, ◌⊎◌}
-use Rattle.std.proofs.lemmas.Bool.{cases_lt}
-use Rattle.std.proofs.lemmas.Bool.Decides.{nat_tests}
-use Rattle.std.proofs.Math.Nat.{pow-suc, mul_assoc, mul_comm, add_comm, mul-le-mul_right, mul-le-mul_left}
-use Rattle.std.proofs.lemmas.Nat.{div-add-mod'}
-use Rattle.std.specs.Prelude.{◌&&◌, ◌||◌}
-use Rattle.scaled_decimals.specs.declared.reading.DecFault.TheVariants.{TooLarge}
-use Rattle.scaled_decimals.specs.declared.reading.head.Head.{Head}
-use Rattle.scaled_decimals.specs.DecimalReading.{read_ratio, with_sign}
-use Rattle.scaled_decimals.specs.PartsReading.{IsHead, IsKept}
+use Rattle.scaled_decimals.proofs.Common.{◌≡◌, ℕ, zero, suc, ◌+◌, ◌-◌, ◌*◌, ◌/◌, ◌%◌, ◌^◌, ◌<◌, ◌≤◌, pos, true, false, Bool, not, eqb, ltb, pow-add, sym, refl, ap, ap₂, ◌∙◌, inl, inr, arith, Ok, Err, ◌⊎◌, cases_lt, nat_tests, pow-suc, mul_assoc, mul_comm, add_comm, mul-le-mul_right, mul-le-mul_left, div-add-mod', ◌&&◌, ◌||◌, TooLarge, Head, read_ratio, with_sign, IsHead, IsKept}
 use Rattle.scaled_decimals.proofs.DigitLemmas.{ten_pos, ten_mono}
 use Rattle.scaled_decimals.proofs.HeadLemmas.{IsHead-whole}
 use Rattle.scaled_decimals.proofs.RatioLemmas.{nearest_is, ratio_above, ratio_within, read_ratio-scale, parts_above, parts_just_above, parts_within, parts_just_within, parts_down, parts_up}

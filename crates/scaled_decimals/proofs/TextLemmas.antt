@@ -1,15 +1,5 @@
 -- Texts and their parts: a text is made of what its readers find, and what spells a text is what they find.
-use Rattle.std.proofs.Common.{◌≡◌, ℕ, ◌+◌, ◌<◌, List, [], ◌∷◌, ◌++◌, length, drop, true, false, Bool, cond, eqb, Option, Some, None, sym, refl, ap, ap₂, ◌∙◌, arith, subst}
-use Rattle.std.specs.Prelude.{◌||◌, slice_index}
-use Rattle.std.specs.Char.{is_ascii_digit}
-use Rattle.std.specs.List.{prefix_len}
-use Rattle.std.proofs.lemmas.Bool.{eqb-true}
-use Rattle.std.proofs.lemmas.Bool.Decides.{nat_tests}
-use Rattle.std.proofs.lemmas.List.{take-append-drop}
-use Rattle.std.proofs.Math.Seq.{drop-length}
-use Rattle.scaled_decimals.specs.Digits.{AreDigits, IsNumeral}
-use Rattle.scaled_decimals.specs.NumberText.{Sign, Bare, Plus, Minus, Exponent, NumberText, IsExponent, Spells, sign_bytes, mark, fraction_bytes, exponent_bytes, fraction_digits, is_minus}
-use Rattle.scaled_decimals.specs.PartsReading.{digits_in_front, after_digits, IsPower}
+use Rattle.scaled_decimals.proofs.Common.{◌≡◌, ℕ, ◌+◌, ◌<◌, List, [], ◌∷◌, ◌++◌, length, drop, true, false, Bool, cond, eqb, Option, Some, None, sym, refl, ap, ap₂, ◌∙◌, arith, subst, ◌||◌, slice_index, is_ascii_digit, prefix_len, eqb-true, nat_tests, take-append-drop, drop-length, AreDigits, IsNumeral, Sign, Bare, Plus, Minus, Exponent, NumberText, IsExponent, Spells, sign_bytes, mark, fraction_bytes, exponent_bytes, fraction_digits, is_minus, digits_in_front, after_digits, IsPower}
 use Rattle.scaled_decimals.proofs.DigitLemmas.{AreDigits-head, digit_range, digits_in_front-append, after_digits-append, AreDigits-front}
 
 -- ---- signs

@@ -1,17 +1,5 @@
 -- Texts of exact values and their forms.
-use Rattle.std.proofs.Common.{◌≡◌, ℕ, ◌<◌, List, [], ◌∷◌, ◌++◌, length, drop, true, false, Bool, cond, eqb, sym, refl, ap, ap₂, ◌∙◌, arith, subst, Result, Ok, Err, append-nil}
-use Rattle.std.specs.Prelude.{slice_index}
-use Rattle.std.specs.Char.{is_ascii_digit}
-use Rattle.std.specs.List.{prefix_len}
-use Rattle.std.proofs.lemmas.Bool.{eqb-true}
-use Rattle.std.proofs.lemmas.Bool.Decides.{nat_tests}
-use Rattle.exact_num.specs.declared.fraction.Frac.{Frac}
-use Rattle.scaled_decimals.specs.declared.reading.DecFault.{DecFault}
-use Rattle.scaled_decimals.specs.declared.reading.DecFault.TheVariants.{NotNumber, TooLarge}
-use Rattle.scaled_decimals.specs.Digits.{AreDigits, IsNumeral}
-use Rattle.scaled_decimals.specs.FractionText.{Form, Whole, Quotient, Decimal, FractionText, form_bytes, IsFormed, SpellsValue, below_of}
-use Rattle.scaled_decimals.specs.FractionReading.{ReadsValue, AgreesWith}
-use Rattle.scaled_decimals.specs.PartsReading.{digits_in_front, after_digits}
+use Rattle.scaled_decimals.proofs.Common.{◌≡◌, ℕ, ◌<◌, List, [], ◌∷◌, ◌++◌, length, drop, true, false, Bool, cond, eqb, sym, refl, ap, ap₂, ◌∙◌, arith, subst, Result, Ok, Err, append-nil, slice_index, is_ascii_digit, prefix_len, eqb-true, nat_tests, Frac, DecFault, NotNumber, TooLarge, AreDigits, IsNumeral, Form, Whole, Quotient, Decimal, FractionText, form_bytes, IsFormed, SpellsValue, below_of, ReadsValue, AgreesWith, digits_in_front, after_digits}
 use Rattle.scaled_decimals.proofs.DigitLemmas.{digits_in_front-append, after_digits-append, AreDigits-front}
 use Rattle.scaled_decimals.proofs.TextLemmas.{digits-bytes, IsUnsigned, IsUnsigned-digits}
 

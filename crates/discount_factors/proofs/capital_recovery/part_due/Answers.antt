@@ -1,6 +1,4 @@
-use Rattle.std.proofs.Common.{◌≡◌, ◌<◌, ◌≤◌, ◌-◌, ◌*◌, ◌/◌, ◌^◌, ap, ap₂, sym, subst, ◌∙◌, arith}
-use Rattle.std.proofs.lemmas.Bool.{lt-ltb}
-use Rattle.discount_factors.specs.Factors.{unit_of, recovery_factor}
+use Rattle.discount_factors.proofs.Common.{◌≡◌, ◌<◌, ◌≤◌, ◌-◌, ◌*◌, ◌/◌, ◌^◌, ap, ap₂, sym, subst, ◌∙◌, arith, lt-ltb, unit_of, recovery_factor}
 use Rattle.discount_factors.proofs.KeptLaws.{small_factor}
 use Rattle.discount_factors.proofs.LifeLaws.{recovery-above_0, recovery-level, recovery_factor-le, first_year-le}
 use Rattle.discount_factors.proofs.ValueLaws.{discounted-below_whole, discounted-le}

@@ -1,5 +1,4 @@
-use Rattle.std.proofs.Common.{◌≡◌, ◌+◌, ◌*◌, ◌/◌, ◌^◌, suc, sym, ap, ◌∙◌, arith}
-use Rattle.discount_factors.specs.Factors.{discounted}
+use Rattle.discount_factors.proofs.Common.{◌≡◌, ◌+◌, ◌*◌, ◌/◌, ◌^◌, suc, sym, ap, ◌∙◌, arith, discounted}
 use Rattle.discount_factors.proofs.ValueLaws.{discounted-first, discounted-more}
 use Rattle.discount_factors.proofs.values.discounted_value.Goals as goal
 

@@ -1,5 +1,4 @@
-use Rattle.std.proofs.Common.{◌≡◌}
-use Rattle.discount_factors.specs.Factors.{discounted}
+use Rattle.discount_factors.proofs.Common.{◌≡◌, discounted}
 use Rattle.discount_factors.proofs.values.discounted_value.Given as goal
 
 abbrev pub invariant-loop : goal.invariant-loop

@@ -1,7 +1,4 @@
-use Rattle.std.proofs.Common.{◌≡◌, ◌+◌, ◌*◌, ◌/◌, ◌^◌, ◌++◌, [], ◌∷◌, suc, length, sym, ap, ◌∙◌, subst, arith}
-use Rattle.std.proofs.lemmas.List.{length-append}
-use Rattle.discount_factors.specs.Factors.{discounted}
-use Rattle.discount_factors.specs.Known.{AreDiscounted}
+use Rattle.discount_factors.proofs.Common.{◌≡◌, ◌+◌, ◌*◌, ◌/◌, ◌^◌, ◌++◌, [], ◌∷◌, suc, length, sym, ap, ◌∙◌, subst, arith, length-append, discounted, AreDiscounted}
 use Rattle.discount_factors.proofs.ValueLaws.{discounted-first, discounted-more}
 use Rattle.discount_factors.proofs.Tables.{AreDiscounted-more}
 use Rattle.discount_factors.proofs.values.discounted_values.Goals as goal

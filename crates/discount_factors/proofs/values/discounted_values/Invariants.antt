@@ -1,6 +1,4 @@
-use Rattle.std.proofs.Common.{◌≡◌, ◌+◌, length}
-use Rattle.discount_factors.specs.Factors.{discounted}
-use Rattle.discount_factors.specs.Known.{AreDiscounted}
+use Rattle.discount_factors.proofs.Common.{◌≡◌, ◌+◌, length, discounted, AreDiscounted}
 use Rattle.discount_factors.proofs.values.discounted_values.Given as goal
 
 abbrev pub invariant-loop : goal.invariant-loop

@@ -1,9 +1,5 @@
 -- A quotient is the product with the reciprocal.
-use Rattle.std.proofs.Common.{sym, ap, ◌∙◌}
-use Rattle.exact_num.specs.Formed.{product_formed, quotient_formed}
-use Rattle.exact_num.specs.Range.{all_fit}
-use Rattle.exact_num.specs.Rational.{times}
-use Rattle.exact_num.specs.Value.{value_of}
+use Rattle.exact_num.proofs.Common.{sym, ap, ◌∙◌, product_formed, quotient_formed, all_fit, times, value_of}
 use Rattle.exact_num.proofs.RangeLaws.{IfOk-equal}
 use Rattle.exact_num.proofs.RationalLaws.{divided-is_times}
 use Rattle.exact_num.proofs.ValueLaws.{value_of-IsLowest}

@@ -1,10 +1,5 @@
 -- The two numbers exchanged are in lowest terms.
-use Rattle.std.proofs.Common.{sym, ap₂, ◌∙◌, subst, pos, arith}
-use Rattle.std.specs.Prelude.{◌<ℤ◌, ◌≤ℤ◌}
-use Rattle.std.proofs.lemmas.Int.{ints}
-use Rattle.exact_num.specs.Range.{InRange}
-use Rattle.exact_num.specs.Rational.{IsLowest, pair}
-use Rattle.exact_num.specs.Value.{value_of}
+use Rattle.exact_num.proofs.Common.{sym, ap₂, ◌∙◌, subst, pos, arith, ◌<ℤ◌, ◌≤ℤ◌, ints, InRange, IsLowest, pair, value_of}
 use Rattle.exact_num.proofs.RangeLaws.{back_in_range}
 use Rattle.exact_num.proofs.RationalLaws.{reciprocal-IsLowest, reciprocal_of_neg, reciprocal_of_pos}
 use Rattle.exact_num.proofs.ValueLaws.{value_of-IsLowest}

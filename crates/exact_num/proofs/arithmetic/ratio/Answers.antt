@@ -1,7 +1,5 @@
 -- The sign moves to the numerator.
-use Rattle.std.proofs.Common.{ap₂, ◌∙◌}
-use Rattle.exact_num.specs.Range.{InRange}
-use Rattle.exact_num.specs.Rational.{lowest}
+use Rattle.exact_num.proofs.Common.{ap₂, ◌∙◌, InRange, lowest}
 use Rattle.exact_num.proofs.RangeLaws.{back_in_range}
 use Rattle.exact_num.proofs.RationalLaws.{lowest-neg_ℤ}
 use Rattle.exact_num.proofs.arithmetic.ratio.Goals as goal

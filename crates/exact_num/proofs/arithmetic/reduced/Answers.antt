@@ -1,8 +1,5 @@
 -- The two quotients are the pair in lowest terms.
-use Rattle.std.proofs.Common.{ℤ, pos, sym, ◌∙◌, subst}
-use Rattle.std.specs.Prelude.{◌<ℤ◌}
-use Rattle.exact_num.specs.Range.{InRange}
-use Rattle.exact_num.specs.Rational.{IsLowest}
+use Rattle.exact_num.proofs.Common.{ℤ, pos, sym, ◌∙◌, subst, ◌<ℤ◌, InRange, IsLowest}
 use Rattle.exact_num.proofs.Integers.{nonzero_of_pos}
 use Rattle.exact_num.proofs.RangeLaws.{back_in_range}
 use Rattle.exact_num.proofs.RationalLaws.{common_pos, divided_by, lowest-IsLowest}

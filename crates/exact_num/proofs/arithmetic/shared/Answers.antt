@@ -1,8 +1,5 @@
 -- The common divisor with a positive number is positive, and with 1 it is 1.
-use Rattle.std.proofs.Common.{◌≡◌, sym, ap, ◌∙◌, subst, ℤ, pos, to_z}
-use Rattle.std.specs.Int.{w128}
-use Rattle.std.specs.Prelude.{◌<ℤ◌}
-use Rattle.exact_num.specs.Range.{InRange}
+use Rattle.exact_num.proofs.Common.{◌≡◌, sym, ap, ◌∙◌, subst, ℤ, pos, to_z, w128, ◌<ℤ◌, InRange}
 use Rattle.exact_num.proofs.OperationLaws.{common_whole}
 use Rattle.exact_num.proofs.RangeLaws.{back_in_range}
 use Rattle.exact_num.proofs.RationalLaws.{common_pos}

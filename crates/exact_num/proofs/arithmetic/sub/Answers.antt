@@ -1,9 +1,5 @@
 -- A difference is the sum with the negative.
-use Rattle.std.proofs.Common.{sym, ap, ◌∙◌}
-use Rattle.exact_num.specs.Formed.{sum_formed}
-use Rattle.exact_num.specs.Range.{all_fit}
-use Rattle.exact_num.specs.Rational.{plus}
-use Rattle.exact_num.specs.Value.{value_of}
+use Rattle.exact_num.proofs.Common.{sym, ap, ◌∙◌, sum_formed, all_fit, plus, value_of}
 use Rattle.exact_num.proofs.OperationLaws.{difference_fits}
 use Rattle.exact_num.proofs.RangeLaws.{IfOk-equal}
 use Rattle.exact_num.proofs.RationalLaws.{minus-is_plus}

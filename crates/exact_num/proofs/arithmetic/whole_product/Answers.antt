@@ -1,8 +1,5 @@
 -- At denominators 1 one number alone is formed that may not fit.
-use Rattle.std.proofs.Common.{sym, ap, ◌∙◌}
-use Rattle.exact_num.specs.Range.{InRange}
-use Rattle.exact_num.specs.Rational.{whole}
-use Rattle.exact_num.specs.Value.{value_of}
+use Rattle.exact_num.proofs.Common.{sym, ap, ◌∙◌, InRange, whole, value_of}
 use Rattle.exact_num.proofs.OperationLaws.{whole_product_fits, whole_product_value}
 use Rattle.exact_num.proofs.RangeLaws.{back_in_range, is_ok-false}
 use Rattle.exact_num.proofs.RationalLaws.{whole-IsLowest}

@@ -1,9 +1,5 @@
 -- The numbers formed are those of the definition, and they are the product.
-use Rattle.std.proofs.Common.{sym, ap, ap₂, ◌∙◌, subst, ◌*ℤ◌}
-use Rattle.exact_num.specs.Formed.{common}
-use Rattle.exact_num.specs.Range.{InRange, in_range}
-use Rattle.exact_num.specs.Rational.{IsLowest, pair}
-use Rattle.exact_num.specs.Value.{value_of}
+use Rattle.exact_num.proofs.Common.{sym, ap, ap₂, ◌∙◌, subst, ◌*ℤ◌, common, InRange, in_range, IsLowest, pair, value_of}
 use Rattle.exact_num.proofs.OperationLaws.{product_stops_top, product_stops_bottom, product_fits, product_value, product-IsLowest, part_by}
 use Rattle.exact_num.proofs.RangeLaws.{back_in_range, is_ok-false}
 use Rattle.exact_num.proofs.ValueLaws.{value_of-IsLowest}

@@ -1,10 +1,5 @@
 -- The numbers formed are those of the definition, and the last two are the sum.
-use Rattle.std.proofs.Common.{◌≡◌, sym, ap, ap₂, ◌∙◌, subst, ℤ, pos, ◌+ℤ◌}
-use Rattle.std.specs.Prelude.{◌<ℤ◌}
-use Rattle.exact_num.specs.Formed.{common}
-use Rattle.exact_num.specs.Range.{InRange, in_range}
-use Rattle.exact_num.specs.Rational.{lowest}
-use Rattle.exact_num.specs.Value.{value_of}
+use Rattle.exact_num.proofs.Common.{◌≡◌, sym, ap, ap₂, ◌∙◌, subst, ℤ, pos, ◌+ℤ◌, ◌<ℤ◌, common, InRange, in_range, lowest, value_of}
 use Rattle.exact_num.proofs.OperationLaws.{sum_left, sum_right, sum_left_is, sum_right_is, sum_bottom_is, sum_stops_left, sum_stops_right, sum_stops_top, sum_stops_bottom, sum_fits, sum_value, sum_divisor, sum_bottom_pos}
 use Rattle.exact_num.proofs.RangeLaws.{back_in_range, is_ok-false}
 use Rattle.exact_num.proofs.ValueLaws.{value_of-IsLowest}

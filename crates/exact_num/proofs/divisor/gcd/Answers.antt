@@ -1,9 +1,5 @@
 -- What the cast of the natural result gives.
-use Rattle.std.proofs.Common.{◌≡◌, ◌<◌, ◌^◌, pos, ap, ap₂, ◌∙◌}
-use Rattle.std.specs.Prelude.{unsigned_abs}
-use Rattle.std.specs.Int.{w128}
-use Rattle.std.proofs.lemmas.Int.{to_z_pos}
-use Rattle.exact_num.specs.Gcd.{gcd_of}
+use Rattle.exact_num.proofs.Common.{◌≡◌, ◌<◌, ◌^◌, pos, ap, ap₂, ◌∙◌, unsigned_abs, w128, to_z_pos, gcd_of}
 use Rattle.exact_num.proofs.GcdLaws.{gcd_of_below}
 use Rattle.exact_num.proofs.RangeLaws.{back_in_range}
 use Rattle.exact_num.proofs.divisor.gcd.Goals as goal

@@ -1,6 +1,5 @@
 -- A remainder keeps the greatest common divisor.
-use Rattle.std.proofs.Common.{◌%◌, sym, ap, ◌∙◌, arith}
-use Rattle.exact_num.specs.Gcd.{gcd_of}
+use Rattle.exact_num.proofs.Common.{◌%◌, sym, ap, ◌∙◌, arith, gcd_of}
 use Rattle.exact_num.proofs.GcdLaws.{gcd_of-mod, gcd_of_at_zero}
 use Rattle.exact_num.proofs.divisor.mixed_gcd.Goals as goal
 

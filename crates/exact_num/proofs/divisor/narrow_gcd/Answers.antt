@@ -1,6 +1,5 @@
 -- The numbers put in order, and a remainder, keep the greatest common divisor.
-use Rattle.std.proofs.Common.{◌%◌, sym, ap₂, ◌∙◌, arith}
-use Rattle.exact_num.specs.Gcd.{gcd_of}
+use Rattle.exact_num.proofs.Common.{◌%◌, sym, ap₂, ◌∙◌, arith, gcd_of}
 use Rattle.exact_num.proofs.GcdLaws.{gcd_of-mod, gcd_of_at_zero}
 use Rattle.exact_num.proofs.OddLaws.{ordered}
 use Rattle.exact_num.proofs.divisor.narrow_gcd.Goals as goal

@@ -1,6 +1,5 @@
 -- A step keeps the greatest common divisor, and equal numbers are their own.
-use Rattle.std.proofs.Common.{◌≡◌, ◌%◌, sym, ap, ap₂, ◌∙◌, arith}
-use Rattle.exact_num.specs.Gcd.{gcd_of}
+use Rattle.exact_num.proofs.Common.{◌≡◌, ◌%◌, sym, ap, ap₂, ◌∙◌, arith, gcd_of}
 use Rattle.exact_num.proofs.GcdLaws.{gcd_of-self}
 use Rattle.exact_num.proofs.OddLaws.{gap_step, min_odd}
 use Rattle.exact_num.proofs.divisor.narrow_odd_gcd.Goals as goal

@@ -1,6 +1,5 @@
 -- Both numbers stay odd and keep their greatest common divisor, and their sum falls.
-use Rattle.std.proofs.Common.{◌≡◌, ◌+◌, ◌%◌}
-use Rattle.exact_num.specs.Gcd.{gcd_of}
+use Rattle.exact_num.proofs.Common.{◌≡◌, ◌+◌, ◌%◌, gcd_of}
 use Rattle.exact_num.proofs.divisor.narrow_odd_gcd.Given as goal
 
 abbrev pub invariant-loop-left : goal.invariant-loop-left

@@ -1,7 +1,5 @@
 -- The odd parts' greatest common divisor with the factors of 2 that both numbers have.
-use Rattle.std.proofs.Common.{◌*◌, ◌%◌, ◌^◌, ◌<◌, ap, ap₂, ◌∙◌, arith}
-use Rattle.std.proofs.Math.Nat.{mod-eq_of_lt}
-use Rattle.exact_num.specs.Gcd.{gcd_of}
+use Rattle.exact_num.proofs.Common.{◌*◌, ◌%◌, ◌^◌, ◌<◌, ap, ap₂, ◌∙◌, arith, mod-eq_of_lt, gcd_of}
 use Rattle.exact_num.proofs.GcdLaws.{gcd_of_comm, gcd_of_below}
 use Rattle.exact_num.proofs.OddLaws.{twos_shared}
 use Rattle.exact_num.proofs.divisor.wide_gcd.Goals as goal

@@ -1,5 +1,4 @@
-use Rattle.std.proofs.Common.{◌∙◌, sym}
-use Rattle.exact_num.specs.Rational.{minus}
+use Rattle.exact_num.proofs.Common.{◌∙◌, sym, minus}
 use Rattle.exact_num.proofs.OrderLaws.{order_of-minus, order_of-zero, order_of-plus, order_of-times}
 use Rattle.exact_num.proofs.laws.order_laws.Goals as goal
 

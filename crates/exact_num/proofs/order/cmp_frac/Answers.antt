@@ -1,10 +1,5 @@
 -- By the signs of the two numerators.
-use Rattle.std.proofs.Common.{sym, ap₂, ◌∙◌, ◌*◌, pos, arith}
-use Rattle.std.specs.Prelude.{◌<ℤ◌, ◌≤ℤ◌}
-use Rattle.std.specs.Ordering.{nat_cmp}
-use Rattle.std.proofs.lemmas.Int.{ints}
-use Rattle.exact_num.specs.Range.{InRange}
-use Rattle.exact_num.specs.Value.{value_of}
+use Rattle.exact_num.proofs.Common.{sym, ap₂, ◌∙◌, ◌*◌, pos, arith, ◌<ℤ◌, ◌≤ℤ◌, nat_cmp, ints, InRange, value_of}
 use Rattle.exact_num.proofs.OrderLaws.{order_of-nonnegative, order_of-negative, order_of-less, order_of-greater}
 use Rattle.exact_num.proofs.RangeLaws.{back_in_range}
 use Rattle.exact_num.proofs.ValueLaws.{value_of-IsLowest}

@@ -1,6 +1,5 @@
 -- The comparison stays what it was, and the denominators fall.
-use Rattle.std.proofs.Common.{◌≡◌, ◌+◌, ◌*◌, ◌<◌}
-use Rattle.std.specs.Ordering.{nat_cmp}
+use Rattle.exact_num.proofs.Common.{◌≡◌, ◌+◌, ◌*◌, ◌<◌, nat_cmp}
 use Rattle.exact_num.proofs.order.cmp_ratios.Given as goal
 
 abbrev pub invariant-loop-left : goal.invariant-loop-left

@@ -1,5 +1,4 @@
-use Rattle.std.proofs.Common.{subst}
-use Rattle.model_sets.specs.Years.{IsYear}
+use Rattle.model_sets.proofs.Common.{subst, IsYear}
 use Rattle.model_sets.proofs.YearLaws.{is_year-from, year_is}
 use Rattle.model_sets.proofs.laws.year_laws.Goals as goal
 

@@ -1,6 +1,4 @@
-use Rattle.std.proofs.Common.{◌≡◌, ◌-◌, ℕ, get_or, ap, ◌∙◌, arith}
-use Rattle.model_sets.specs.CodeTables.{described_param}
-use Rattle.model_sets.specs.Params.{params, no_param}
+use Rattle.model_sets.proofs.Common.{◌≡◌, ◌-◌, ℕ, get_or, ap, ◌∙◌, arith, described_param, params, no_param}
 use Rattle.model_sets.proofs.Tables.{described_entry}
 use Rattle.model_sets.proofs.params.look_up.Goals as goal
 

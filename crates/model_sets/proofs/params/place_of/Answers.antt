@@ -1,8 +1,4 @@
-use Rattle.std.proofs.Common.{◌≡◌, ◌<◌, [], length, get_or, ap, sym, ◌∙◌, arith}
-use Rattle.std.specs.Str.{bytes_eq}
-use Rattle.std.proofs.lemmas.List.{get_or-map}
-use Rattle.model_sets.specs.CodeTables.{described_param}
-use Rattle.model_sets.specs.Params.{Param, no_param, params, param_words}
+use Rattle.model_sets.proofs.Common.{◌≡◌, ◌<◌, [], length, get_or, ap, sym, ◌∙◌, arith, bytes_eq, get_or-map, described_param, Param, no_param, params, param_words}
 use Rattle.model_sets.proofs.Tables.{described_entry, described_length, found_here, passed_more, passed_all, passed_none}
 use Rattle.model_sets.proofs.params.place_of.Goals as goal
 

@@ -1,5 +1,4 @@
-use Rattle.std.specs.Str.{bytes_eq}
-use Rattle.model_sets.specs.Params.{param_words}
+use Rattle.model_sets.proofs.Common.{bytes_eq, param_words}
 use Rattle.model_sets.proofs.Tables.{Passed}
 use Rattle.model_sets.proofs.params.place_of.Given as goal
 

@@ -1,6 +1,4 @@
-use Rattle.std.proofs.Common.{◌≡◌, ℕ, ◌≤◌, List, length, sym, ap, subst, All}
-use Rattle.model_sets.specs.Names.{IsSet}
-use Rattle.model_sets.specs.Params.{Param, subscript_sets}
+use Rattle.model_sets.proofs.Common.{◌≡◌, ℕ, ◌≤◌, List, length, sym, ap, subst, All, IsSet, Param, subscript_sets}
 use Rattle.model_sets.proofs.ParamLaws.{subscripts_are_sets, subscripts-most}
 use Rattle.model_sets.proofs.params.subscript_sets.Goals as goal
 

@@ -1,6 +1,4 @@
-use Rattle.std.proofs.Common.{◌≡◌, ◌-◌, ℕ, List, [], get_or, ap, ◌∙◌, arith}
-use Rattle.std.specs.Borrow.{Bor}
-use Rattle.model_sets.specs.Names.{set_words}
+use Rattle.model_sets.proofs.Common.{◌≡◌, ◌-◌, ℕ, List, [], get_or, ap, ◌∙◌, arith, Bor, set_words}
 use Rattle.model_sets.proofs.Tables.{described_entry}
 use Rattle.model_sets.proofs.set_words.look_up.Goals as goal
 

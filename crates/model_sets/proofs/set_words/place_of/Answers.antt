@@ -1,7 +1,4 @@
-use Rattle.std.proofs.Common.{◌≡◌, ◌<◌, ℕ, List, [], length, get_or, ap, sym, ◌∙◌, arith}
-use Rattle.std.specs.Borrow.{Bor}
-use Rattle.std.specs.Str.{bytes_eq}
-use Rattle.model_sets.specs.Names.{set_words}
+use Rattle.model_sets.proofs.Common.{◌≡◌, ◌<◌, ℕ, List, [], length, get_or, ap, sym, ◌∙◌, arith, Bor, bytes_eq, set_words}
 use Rattle.model_sets.proofs.Tables.{described_entry, described_length, found_here, passed_more, passed_all, passed_none}
 use Rattle.model_sets.proofs.set_words.place_of.Goals as goal
 

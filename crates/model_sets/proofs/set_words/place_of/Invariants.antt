@@ -1,5 +1,4 @@
-use Rattle.std.specs.Str.{bytes_eq}
-use Rattle.model_sets.specs.Names.{set_words}
+use Rattle.model_sets.proofs.Common.{bytes_eq, set_words}
 use Rattle.model_sets.proofs.Tables.{Passed}
 use Rattle.model_sets.proofs.set_words.place_of.Given as goal
 

@@ -1,5 +1,4 @@
-use Rattle.std.proofs.Common.{sym, ap, ◌∙◌, ◌+◌, ◌*◌, ◌-◌, get_or, drop}
-use Rattle.std.proofs.lemmas.List.{drop_more}
+use Rattle.model_sets.proofs.Common.{sym, ap, ◌∙◌, ◌+◌, ◌*◌, ◌-◌, get_or, drop, drop_more}
 use Rattle.model_sets.proofs.YearLaws.{read_on, too_large}
 use Rattle.model_sets.proofs.years.number_of_digits.Goals as goal
 

@@ -1,7 +1,4 @@
-use Rattle.std.proofs.Common.{◌≡◌, ◌≤◌, drop}
-use Rattle.std.specs.Char.{is_ascii_digit}
-use Rattle.std.specs.List.{list_all}
-use Rattle.model_sets.specs.Years.{number_of}
+use Rattle.model_sets.proofs.Common.{◌≡◌, ◌≤◌, drop, is_ascii_digit, list_all, number_of}
 use Rattle.model_sets.proofs.YearLaws.{read_on}
 use Rattle.model_sets.proofs.years.number_of_digits.Given as goal
 

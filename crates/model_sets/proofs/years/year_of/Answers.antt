@@ -1,5 +1,4 @@
-use Rattle.std.proofs.Common.{sym, ◌∙◌, inl, inr, arith, length}
-use Rattle.std.proofs.lemmas.Bool.{eqb-true, eqb-false}
+use Rattle.model_sets.proofs.Common.{sym, ◌∙◌, inl, inr, arith, length, eqb-true, eqb-false}
 use Rattle.model_sets.proofs.YearLaws.{no_year, year_by_digits, year_given}
 use Rattle.model_sets.proofs.years.year_of.Goals as goal
 use Rattle.model_sets.proofs.years.year_of.Goals.{then-is_empty-via-then-is_empty, then-is_empty-via-else-is_empty+then-name-eq48}

@@ -1,7 +1,4 @@
-use Rattle.std.proofs.Common.{◌≡◌, ◌++◌, ap, sym, ◌∙◌}
-use Rattle.std.specs.Prelude.{codes}
-use Rattle.std.specs.Fmt.{signed_decimal}
-use Rattle.exact_num.proofs.RangeLaws.{back_in_range}
+use Rattle.scaled_decimals.proofs.Common.{◌≡◌, ◌++◌, ap, sym, ◌∙◌, codes, signed_decimal, back_in_range}
 use Rattle.scaled_decimals.proofs.PrintedTexts.{OnOk-appended, OnOk-same, one-from_test, not_one-from_test, fraction_text-whole, fraction_text-quotient}
 use Rattle.scaled_decimals.proofs.printing.push_frac.Goals as goal
 

@@ -1,11 +1,4 @@
-use Rattle.std.proofs.Common.{◌≡◌, ◌+◌, ◌*◌, ◌++◌, pos, ap, ◌∙◌, to_z, of_z}
-use Rattle.std.specs.Prelude.{unsigned_abs}
-use Rattle.std.specs.Int.{w128}
-use Rattle.exact_num.specs.Rational.{signed_by}
-use Rattle.exact_num.specs.Value.{value_of}
-use Rattle.exact_num.proofs.RangeLaws.{back_in_range}
-use Rattle.scaled_decimals.specs.PrintedPlaces.{sign_of, places_text}
-use Rattle.scaled_decimals.specs.Rounding.{nearest}
+use Rattle.scaled_decimals.proofs.Common.{◌≡◌, ◌+◌, ◌*◌, ◌++◌, pos, ap, ◌∙◌, to_z, of_z, unsigned_abs, w128, signed_by, value_of, back_in_range, sign_of, places_text, nearest}
 use Rattle.scaled_decimals.proofs.PrintedTexts.{OnOk-same, places_text-pieces}
 use Rattle.scaled_decimals.proofs.printing.push_places.Goals as goal
 

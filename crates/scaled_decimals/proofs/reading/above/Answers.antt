@@ -1,9 +1,5 @@
 -- A decimal's digits are read in two runs.
-use Rattle.std.proofs.Common.{◌^◌, ap, sym, ◌∙◌, ◌++◌}
-use Rattle.std.specs.Prelude.{min}
-use Rattle.scaled_decimals.specs.Digits.{continued}
-use Rattle.scaled_decimals.specs.FractionText.{above_of}
-use Rattle.scaled_decimals.specs.PartsReading.{form_of}
+use Rattle.scaled_decimals.proofs.Common.{◌^◌, ap, sym, ◌∙◌, ◌++◌, min, continued, above_of, form_of}
 use Rattle.scaled_decimals.proofs.DigitLemmas.{continued-zero, continued-append, capped-continued}
 use Rattle.scaled_decimals.proofs.reading.above.Goals as goal
 

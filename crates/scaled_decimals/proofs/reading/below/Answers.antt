@@ -1,7 +1,4 @@
-use Rattle.std.proofs.Common.{◌^◌, ap, sym, ◌∙◌}
-use Rattle.std.specs.Prelude.{min}
-use Rattle.scaled_decimals.specs.FractionText.{below_of}
-use Rattle.scaled_decimals.specs.PartsReading.{form_of}
+use Rattle.scaled_decimals.proofs.Common.{◌^◌, ap, sym, ◌∙◌, min, below_of, form_of}
 use Rattle.scaled_decimals.proofs.DigitLemmas.{continued-zero}
 use Rattle.scaled_decimals.proofs.reading.below.Goals as goal
 

@@ -1,10 +1,5 @@
 -- The digits before and after the point are one number.
-use Rattle.std.proofs.Common.{◌≡◌, ℕ, List, ◌+◌, ◌++◌, ◌^◌, ◌<◌, Bool, length, true, false, cond, arith, sym, ap, ap₂, ◌∙◌, subst}
-use Rattle.std.specs.Prelude.{min}
-use Rattle.scaled_decimals.specs.DecimalReading.{mantissa, raised, lowered}
-use Rattle.scaled_decimals.specs.Digits.{number_of, continued}
-use Rattle.scaled_decimals.specs.NumberText.{NumberText, fraction_digits, exponent_digits, is_lowering}
-use Rattle.scaled_decimals.specs.PartsReading.{IsHead, IsKept}
+use Rattle.scaled_decimals.proofs.Common.{◌≡◌, ℕ, List, ◌+◌, ◌++◌, ◌^◌, ◌<◌, Bool, length, true, false, cond, arith, sym, ap, ap₂, ◌∙◌, subst, min, mantissa, raised, lowered, number_of, continued, NumberText, fraction_digits, exponent_digits, is_lowering, IsHead, IsKept}
 use Rattle.scaled_decimals.proofs.DecimalLemmas.{decimal_from, kept-exact, kept-capped}
 use Rattle.scaled_decimals.proofs.DigitLemmas.{continued-zero, continued-append}
 use Rattle.scaled_decimals.proofs.HeadLemmas.{IsHead-none}

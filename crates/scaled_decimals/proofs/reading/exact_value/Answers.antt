@@ -1,9 +1,5 @@
 -- What stands after the minus has one form only.
-use Rattle.std.proofs.Common.{◌≡◌, arith, eqb, sym, ap, ◌∙◌, subst}
-use Rattle.std.specs.Prelude.{slice_index}
-use Rattle.scaled_decimals.specs.FractionText.{FractionText, SpellsValue, below_of}
-use Rattle.scaled_decimals.specs.FractionReading.{AgreesWith}
-use Rattle.scaled_decimals.specs.PartsReading.{form_of}
+use Rattle.scaled_decimals.proofs.Common.{◌≡◌, arith, eqb, sym, ap, ◌∙◌, subst, slice_index, FractionText, SpellsValue, below_of, AgreesWith, form_of}
 use Rattle.scaled_decimals.proofs.ValueTextLemmas.{one_form, one_value_way, body-is, SpellsValue-at, ReadsValue-from}
 use Rattle.scaled_decimals.proofs.reading.exact_value.Goals as goal
 

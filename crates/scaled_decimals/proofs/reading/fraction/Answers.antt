@@ -1,11 +1,5 @@
 -- Both numbers fit, or one of them doesn't.
-use Rattle.std.proofs.Common.{◌≡◌, pos, arith, sym, ap, ap₂, ◌∙◌, inl, inr}
-use Rattle.std.specs.Int.{w128}
-use Rattle.std.proofs.lemmas.Int.{to_z_pos}
-use Rattle.exact_num.proofs.RangeLaws.{back_in_range}
-use Rattle.exact_num.specs.Rational.{lowest}
-use Rattle.scaled_decimals.specs.DecimalReading.{with_sign}
-use Rattle.scaled_decimals.specs.FractionText.{above_of, below_of}
+use Rattle.scaled_decimals.proofs.Common.{◌≡◌, pos, arith, sym, ap, ap₂, ◌∙◌, inl, inr, w128, to_z_pos, back_in_range, lowest, with_sign, above_of, below_of}
 use Rattle.scaled_decimals.proofs.FractionLemmas.{fit_both, wide_above, wide_below}
 use Rattle.scaled_decimals.proofs.reading.fraction.Goals as goal
 

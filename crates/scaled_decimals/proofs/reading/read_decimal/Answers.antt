@@ -1,7 +1,5 @@
 -- A text has one value only, so that what is found is what every reading of it says.
-use Rattle.std.proofs.Common.{sym, ap, ◌∙◌, subst}
-use Rattle.scaled_decimals.specs.DecimalReading.{decimal_of}
-use Rattle.scaled_decimals.specs.Digits.{AreDigits}
+use Rattle.scaled_decimals.proofs.Common.{sym, ap, ◌∙◌, subst, decimal_of, AreDigits}
 use Rattle.scaled_decimals.proofs.DecimalLemmas.{IfOk-bound, Reads-from}
 use Rattle.scaled_decimals.proofs.TextLemmas.{one_way}
 use Rattle.scaled_decimals.proofs.reading.read_decimal.Goals as goal

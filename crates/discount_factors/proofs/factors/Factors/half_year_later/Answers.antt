@@ -1,6 +1,4 @@
-use Rattle.std.proofs.Common.{◌≡◌, ◌≤◌, ◌*◌, ◌/◌, ◌^◌, ap, ap₂, sym, subst, ◌∙◌}
-use Rattle.discount_factors.specs.Known.{Discounting}
-use Rattle.discount_factors.specs.Factors.{unit_of, IsPlaces, discounted, half_year_root, operating_factor}
+use Rattle.discount_factors.proofs.Common.{◌≡◌, ◌≤◌, ◌*◌, ◌/◌, ◌^◌, ap, ap₂, sym, subst, ◌∙◌, Discounting, unit_of, IsPlaces, discounted, half_year_root, operating_factor}
 use Rattle.discount_factors.proofs.FactorLaws.{operating_factor-le}
 use Rattle.discount_factors.proofs.KeptLaws.{kept_places, kept_unit, small_factor}
 use Rattle.discount_factors.proofs.factors.Factors.half_year_later.Goals as goal

@@ -1,8 +1,4 @@
-use Rattle.std.proofs.Common.{◌≡◌, ◌<◌, ◌≤◌, ◌^◌, ◌-◌, ◌*◌, ◌/◌, eqb, ltb, true, sym, ap, ap₂, ◌∙◌, subst, arith}
-use Rattle.std.proofs.lemmas.Bool.{and_parts, ltb-true}
-use Rattle.std.specs.Prelude.{◌&&◌}
-use Rattle.discount_factors.specs.Factors.{unit_of, IsPlaces, sinking_fund, straight_line}
-use Rattle.discount_factors.specs.Known.{Discounting}
+use Rattle.discount_factors.proofs.Common.{◌≡◌, ◌<◌, ◌≤◌, ◌^◌, ◌-◌, ◌*◌, ◌/◌, eqb, ltb, true, sym, ap, ap₂, ◌∙◌, subst, arith, and_parts, ltb-true, ◌&&◌, unit_of, IsPlaces, sinking_fund, straight_line, Discounting}
 use Rattle.discount_factors.proofs.KeptLaws.{kept_places, kept_unit, small_factor}
 use Rattle.discount_factors.proofs.LifeLaws.{salvage-sinking, salvage-straight, salvage_fraction-le}
 use Rattle.discount_factors.proofs.ValueLaws.{discounted-below_whole, discounted-le, discounted-monotone}

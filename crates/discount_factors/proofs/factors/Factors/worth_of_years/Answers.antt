@@ -1,7 +1,4 @@
-use Rattle.std.proofs.Common.{◌≡◌, ◌<◌, ◌≤◌, ◌+◌, ◌-◌, ◌*◌, ◌/◌, ◌^◌, ap, ap₂, sym, subst, ◌∙◌, arith}
-use Rattle.std.proofs.lemmas.Bool.{lt-ltb}
-use Rattle.discount_factors.specs.Factors.{unit_of, IsPlaces, discounted, annuity}
-use Rattle.discount_factors.specs.Known.{Discounting}
+use Rattle.discount_factors.proofs.Common.{◌≡◌, ◌<◌, ◌≤◌, ◌+◌, ◌-◌, ◌*◌, ◌/◌, ◌^◌, ap, ap₂, sym, subst, ◌∙◌, arith, lt-ltb, unit_of, IsPlaces, discounted, annuity, Discounting}
 use Rattle.discount_factors.proofs.AnnuityLaws.{annuity-above_0, annuity-level, annuity-le, annuity_of_200-le}
 use Rattle.discount_factors.proofs.KeptLaws.{kept_places, kept_unit, small_annuity, annuity_fits}
 use Rattle.discount_factors.proofs.Scales.{unit_most}

@@ -1,5 +1,4 @@
-use Rattle.std.proofs.Common.{ap, map, ◌∙◌}
-use Rattle.std.specs.Str.{bytes_eq}
+use Rattle.model_sets.proofs.Common.{ap, map, ◌∙◌, bytes_eq}
 use Rattle.model_sets.proofs.NameLists.{IsDistinct-map, map-insert_key}
 use Rattle.model_sets.proofs.member_list.MemberList.append.Goals as goal
 

@@ -1,6 +1,4 @@
-use Rattle.std.proofs.Common.{sym, ap, ◌∙◌}
-use Rattle.std.specs.Str.{bytes_eq}
-use Rattle.model_sets.specs.Members.{is_among}
+use Rattle.model_sets.proofs.Common.{sym, ap, ◌∙◌, bytes_eq, is_among}
 use Rattle.model_sets.proofs.NameLists.{list_any-map}
 use Rattle.model_sets.proofs.member_list.MemberList.contains.Goals as goal
 

@@ -1,6 +1,4 @@
-use Rattle.std.proofs.Common.{sym, ap, ◌∙◌}
-use Rattle.std.specs.Str.{bytes_eq}
-use Rattle.model_sets.specs.Members.{index_of}
+use Rattle.model_sets.proofs.Common.{sym, ap, ◌∙◌, bytes_eq, index_of}
 use Rattle.model_sets.proofs.NameLists.{position-map}
 use Rattle.model_sets.proofs.member_list.MemberList.index_of.Goals as goal
 

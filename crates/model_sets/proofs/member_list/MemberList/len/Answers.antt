@@ -1,6 +1,4 @@
-use Rattle.std.proofs.Common.{subst}
-use Rattle.std.specs.List.{IsDistinct}
-use Rattle.std.specs.Str.{bytes_eq}
+use Rattle.model_sets.proofs.Common.{subst, IsDistinct, bytes_eq}
 use Rattle.model_sets.proofs.NameLists.{IsDistinct-map}
 use Rattle.model_sets.proofs.member_list.MemberList.len.Goals as goal
 

@@ -1,8 +1,4 @@
-use Rattle.std.proofs.Common.{◌≡◌, ◌-◌, ◌<◌, ◌++◌, [], ◌∷◌, None, set, length, get_or, sym, ap, subst, ◌∙◌, arith}
-use Rattle.std.specs.List.{IsDistinct}
-use Rattle.std.specs.Str.{bytes_eq}
-use Rattle.std.proofs.lemmas.List.{get_or_default}
-use Rattle.model_sets.specs.Members.{AreSets, members, first_refusal, with_member}
+use Rattle.model_sets.proofs.Common.{◌≡◌, ◌-◌, ◌<◌, ◌++◌, [], ◌∷◌, None, set, length, get_or, sym, ap, subst, ◌∙◌, arith, IsDistinct, bytes_eq, get_or_default, AreSets, members, first_refusal, with_member}
 use Rattle.model_sets.proofs.SetLaws.{with_member_are, none_found}
 use Rattle.model_sets.proofs.sets.Sets.add.Goals as goal
 

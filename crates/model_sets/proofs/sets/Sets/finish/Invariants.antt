@@ -1,6 +1,4 @@
-use Rattle.std.proofs.Common.{◌≡◌, drop}
-use Rattle.std.specs.List.{find}
-use Rattle.model_sets.specs.Members.{first_empty, is_without_members}
+use Rattle.model_sets.proofs.Common.{◌≡◌, drop, find, first_empty, is_without_members}
 use Rattle.model_sets.proofs.sets.Sets.finish.Given as goal
 
 abbrev pub invariant-loop-set : goal.invariant-loop-set

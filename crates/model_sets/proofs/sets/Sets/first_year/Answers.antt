@@ -1,7 +1,4 @@
-use Rattle.std.proofs.Common.{◌≡◌, ◌<◌, ◌≤◌, length, sym, ap, subst, ◌∙◌, arith}
-use Rattle.std.proofs.lemmas.List.{length-map, take_all}
-use Rattle.model_sets.specs.Members.{members, years}
-use Rattle.model_sets.specs.Years.{IsLeast, least, number_of}
+use Rattle.model_sets.proofs.Common.{◌≡◌, ◌<◌, ◌≤◌, length, sym, ap, subst, ◌∙◌, arith, length-map, take_all, members, years, IsLeast, least, number_of}
 use Rattle.model_sets.proofs.EndLaws.{least_is}
 use Rattle.model_sets.proofs.sets.Sets.first_year.Goals as goal
 

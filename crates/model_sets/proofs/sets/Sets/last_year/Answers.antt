@@ -1,7 +1,4 @@
-use Rattle.std.proofs.Common.{◌≡◌, ◌<◌, ◌≤◌, length, sym, ap, subst, ◌∙◌, arith}
-use Rattle.std.proofs.lemmas.List.{length-map, take_all}
-use Rattle.model_sets.specs.Members.{members, years}
-use Rattle.model_sets.specs.Years.{IsGreatest, greatest, number_of}
+use Rattle.model_sets.proofs.Common.{◌≡◌, ◌<◌, ◌≤◌, length, sym, ap, subst, ◌∙◌, arith, length-map, take_all, members, years, IsGreatest, greatest, number_of}
 use Rattle.model_sets.proofs.EndLaws.{greatest_is}
 use Rattle.model_sets.proofs.sets.Sets.last_year.Goals as goal
 

@@ -1,5 +1,4 @@
-use Rattle.std.proofs.Common.{◌≡◌, sym, ap, subst, ◌∙◌, [], replicate, arith}
-use Rattle.model_sets.specs.Members.{AreSets}
+use Rattle.model_sets.proofs.Common.{◌≡◌, sym, ap, subst, ◌∙◌, [], replicate, arith, AreSets}
 use Rattle.model_sets.proofs.SetLaws.{no_members_are}
 use Rattle.model_sets.proofs.sets.Sets.new.Goals as goal
 

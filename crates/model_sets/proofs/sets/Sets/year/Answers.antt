@@ -1,6 +1,4 @@
-use Rattle.std.proofs.Common.{[], ap, ◌∙◌, refl, ◌≡◌, true, get_or, arith}
-use Rattle.model_sets.specs.Members.{members}
-use Rattle.model_sets.specs.Years.{is_year}
+use Rattle.model_sets.proofs.Common.{[], ap, ◌∙◌, refl, ◌≡◌, true, get_or, arith, members, is_year}
 use Rattle.model_sets.proofs.YearLaws.{year_found}
 use Rattle.model_sets.proofs.sets.Sets.year.Goals as goal
 

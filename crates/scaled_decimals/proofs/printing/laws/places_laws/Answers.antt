@@ -1,6 +1,4 @@
-use Rattle.std.proofs.Common.{◌∙◌, sym, ap}
-use Rattle.exact_num.specs.Value.{value_of}
-use Rattle.scaled_decimals.specs.PrintedPlaces.{millionths, read_millionths}
+use Rattle.scaled_decimals.proofs.Common.{◌∙◌, sym, ap, value_of, millionths, read_millionths}
 use Rattle.scaled_decimals.proofs.PrintedLaws.{read-millionths_text, six_places, zero-text, millionths-bound, near, tie}
 use Rattle.scaled_decimals.proofs.printing.laws.places_laws.Goals as goal
 

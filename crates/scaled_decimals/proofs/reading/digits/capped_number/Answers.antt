@@ -1,8 +1,5 @@
 -- One digit at a time, capped at each step.
-use Rattle.std.proofs.Common.{◌^◌, ◌+◌, arith, ap, sym, ◌∙◌, get_or, drop}
-use Rattle.std.specs.Prelude.{min}
-use Rattle.std.proofs.lemmas.List.{at_drop_more, at_drop_all}
-use Rattle.scaled_decimals.specs.Digits.{continued}
+use Rattle.scaled_decimals.proofs.Common.{◌^◌, ◌+◌, arith, ap, sym, ◌∙◌, get_or, drop, min, at_drop_more, at_drop_all, continued}
 use Rattle.scaled_decimals.proofs.DigitLemmas.{capped-step, continued-none}
 use Rattle.scaled_decimals.proofs.reading.digits.capped_number.Goals as goal
 

@@ -1,6 +1,4 @@
-use Rattle.std.proofs.Common.{◌≡◌, ◌^◌, ◌≤◌, drop}
-use Rattle.std.specs.Prelude.{min}
-use Rattle.scaled_decimals.specs.Digits.{continued}
+use Rattle.scaled_decimals.proofs.Common.{◌≡◌, ◌^◌, ◌≤◌, drop, min, continued}
 use Rattle.scaled_decimals.proofs.reading.digits.capped_number.Given as goal
 
 abbrev pub invariant-loop-digit : goal.invariant-loop-digit

@@ -1,6 +1,4 @@
-use Rattle.std.proofs.Common.{◌<◌, length, arith, sym, ◌∙◌}
-use Rattle.std.proofs.lemmas.Bool.{eq-eqb, eqb-true}
-use Rattle.std.proofs.lemmas.Bool.Decides.{nat_tests}
+use Rattle.scaled_decimals.proofs.Common.{◌<◌, length, arith, sym, ◌∙◌, eq-eqb, eqb-true, nat_tests}
 use Rattle.scaled_decimals.proofs.DigitLemmas.{AreDigits-from_length, prefix_len-all}
 use Rattle.scaled_decimals.proofs.reading.digits.is_numeral.Goals as goal
 

@@ -1,8 +1,5 @@
 -- Digit by digit, of which each is below 10.
-use Rattle.std.proofs.Common.{◌≡◌, ℕ, ◌+◌, ◌-◌, ◌*◌, arith, sym, refl, ◌∙◌, subst, get_or, drop}
-use Rattle.std.proofs.lemmas.List.{at_drop_more, at_drop_all}
-use Rattle.scaled_decimals.specs.Digits.{continued}
-use Rattle.scaled_decimals.specs.PartsReading.{IsHead}
+use Rattle.scaled_decimals.proofs.Common.{◌≡◌, ℕ, ◌+◌, ◌-◌, ◌*◌, arith, sym, refl, ◌∙◌, subst, get_or, drop, at_drop_more, at_drop_all, continued, IsHead}
 use Rattle.scaled_decimals.proofs.DigitLemmas.{AreDigits-drop, digit_range, continued-cons, continued-none}
 use Rattle.scaled_decimals.proofs.reading.head.extended.Goals as goal
 

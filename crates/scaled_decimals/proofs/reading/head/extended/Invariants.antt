@@ -1,6 +1,4 @@
-use Rattle.std.proofs.Common.{◌≡◌, ◌+◌, ◌^◌, ◌<◌, ◌≤◌, ℕ, drop}
-use Rattle.scaled_decimals.specs.Digits.{AreDigits, continued}
-use Rattle.scaled_decimals.specs.PartsReading.{IsHead}
+use Rattle.scaled_decimals.proofs.Common.{◌≡◌, ◌+◌, ◌^◌, ◌<◌, ◌≤◌, ℕ, drop, AreDigits, continued, IsHead}
 use Rattle.scaled_decimals.proofs.reading.head.extended.Given as goal
 
 abbrev pub invariant-loop-digit : goal.invariant-loop-digit

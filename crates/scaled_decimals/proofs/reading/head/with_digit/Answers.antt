@@ -1,6 +1,5 @@
 -- A digit is kept while none was left out and the digits write less than 10^36.
-use Rattle.std.proofs.Common.{not, eqb, refl, sym, ap, ◌∙◌, arith}
-use Rattle.std.specs.Prelude.{◌||◌}
+use Rattle.scaled_decimals.proofs.Common.{not, eqb, refl, sym, ap, ◌∙◌, arith, ◌||◌}
 use Rattle.scaled_decimals.proofs.HeadLemmas.{IsHead-dropped}
 use Rattle.scaled_decimals.proofs.reading.head.with_digit.Goals as goal
 

@@ -1,9 +1,5 @@
 -- The parts that are found are those of the number.
-use Rattle.std.proofs.Common.{◌≡◌, ◌+◌, ◌<◌, length, arith, sym, ap, ◌∙◌}
-use Rattle.std.proofs.lemmas.Bool.{eqb-true}
-use Rattle.std.proofs.lemmas.Bool.Decides.{nat_tests}
-use Rattle.scaled_decimals.specs.NumberText.{fraction_digits, exponent_bytes}
-use Rattle.scaled_decimals.specs.PartsReading.{digits_in_front, after_digits}
+use Rattle.scaled_decimals.proofs.Common.{◌≡◌, ◌+◌, ◌<◌, length, arith, sym, ap, ◌∙◌, eqb-true, nat_tests, fraction_digits, exponent_bytes, digits_in_front, after_digits}
 use Rattle.scaled_decimals.proofs.TextLemmas.{IsCut-of, Spells-at, number_at, after_sign, places_in_front, after_places, is_minus-of, fraction_digits-of}
 use Rattle.scaled_decimals.proofs.reading.parts.parts_of.Goals as goal
 use Rattle.scaled_decimals.proofs.reading.parts.parts_of.Goals.{else-is_empty-via-then-is_empty+else-is_empty-2, else-is_empty-via-else-is_empty}

@@ -1,6 +1,5 @@
 -- The quotient, and what is left of it.
-use Rattle.std.proofs.Common.{◌/◌, Ok, not, sym, ap₂, ◌∙◌}
-use Rattle.exact_num.proofs.RangeLaws.{back_in_range}
+use Rattle.scaled_decimals.proofs.Common.{◌/◌, Ok, not, sym, ap₂, ◌∙◌, back_in_range}
 use Rattle.scaled_decimals.proofs.ScaleLemmas.{divided_above, divided_within, divided_up, divided_down, above_of}
 use Rattle.scaled_decimals.proofs.reading.scale.divided.Goals as goal
 

@@ -1,7 +1,5 @@
 -- Near enough to divide, or below one half.
-use Rattle.std.proofs.Common.{◌≡◌, ◌≤◌, ◌<◌, ◌*◌, ◌-◌, ◌^◌, Ok, eqb, true, pos, arith, sym, ap, ◌∙◌}
-use Rattle.std.proofs.lemmas.Bool.{eq-eqb}
-use Rattle.scaled_decimals.specs.DecimalReading.{read_ratio}
+use Rattle.scaled_decimals.proofs.Common.{◌≡◌, ◌≤◌, ◌<◌, ◌*◌, ◌-◌, ◌^◌, Ok, eqb, true, pos, arith, sym, ap, ◌∙◌, eq-eqb, read_ratio}
 use Rattle.scaled_decimals.proofs.DigitLemmas.{ten_pos, ten_mono}
 use Rattle.scaled_decimals.proofs.ScaleLemmas.{lowered_far, nonzero-head, zero-head, far-of, ten-even}
 use Rattle.scaled_decimals.proofs.reading.scale.lowered.Goals as goal

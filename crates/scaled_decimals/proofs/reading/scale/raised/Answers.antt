@@ -1,7 +1,5 @@
 -- Where digits were left out, the first digits are above the limit alone.
-use Rattle.std.proofs.Common.{◌≡◌, ◌≤◌, ◌<◌, ◌*◌, ◌-◌, ◌^◌, Ok, false, arith, sym, ap, ◌∙◌}
-use Rattle.exact_num.proofs.RangeLaws.{back_in_range}
-use Rattle.scaled_decimals.specs.DecimalReading.{with_sign}
+use Rattle.scaled_decimals.proofs.Common.{◌≡◌, ◌≤◌, ◌<◌, ◌*◌, ◌-◌, ◌^◌, Ok, false, arith, sym, ap, ◌∙◌, back_in_range, with_sign}
 use Rattle.scaled_decimals.proofs.ScaleLemmas.{raised_zero, raised_above, raised_exact, far-above, near-above, near-within, raised-far}
 use Rattle.scaled_decimals.proofs.reading.scale.raised.Goals as goal
 
