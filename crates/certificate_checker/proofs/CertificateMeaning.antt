@@ -1,29 +1,7 @@
 -- What the answers about multipliers mean.
-use Rattle.std.proofs.Common.{◌≡◌, ℕ, ◌<◌, ℤ, pos, ◌*ℤ◌, true, List, [], ◌∷◌, Some, None, refl, sym, ap, ◌∙◌, subst, arith}
-use Rattle.std.specs.Prelude.{◌<ℤ◌, ◌≤ℤ◌}
-use Rattle.std.proofs.lemmas.Int.{ints}
-use Rattle.exact_num.specs.Rational.{Rational}
-use Rattle.exact_num.specs.Value.{value_of}
-use Rattle.exact_num.proofs.Integers.{*ℤ-≤ℤ, ≤ℤ_cancel}
-use Rattle.exact_num.proofs.Ring.{products}
-use Rattle.row_core.specs.declared.Row.{Row}
-use Rattle.row_core.specs.declared.RowName.{RowName}
-use Rattle.row_core.specs.declared.Var.{Var}
-use Rattle.row_core.specs.Numbers.{ascends}
-use Rattle.row_core.specs.Order.{var_cmp, row_name_cmp}
-use Rattle.row_core.specs.Plans.{value_in}
-use Rattle.row_core.specs.Values.{IsOver}
+use Rattle.certificate_checker.proofs.Common.{◌≡◌, ℕ, ◌<◌, ℤ, pos, ◌*ℤ◌, true, List, [], ◌∷◌, Some, None, refl, sym, ap, ◌∙◌, subst, arith, ◌<ℤ◌, ◌≤ℤ◌, ints, Rational, value_of, *ℤ-≤ℤ, ≤ℤ_cancel, products, Row, RowName, Var, ascends, var_cmp, row_name_cmp, value_in, IsOver, Verdict, AreMultipliersOver, bound_of, Proves, Refutes, BoundsAll, AdmitsNone, Condition, first_failing, no_cost, cost_of, bound_conditions, infeasible_conditions, bound_value, MeetsAll, Reason, HasVariablesOf, IsVerdict, IfYes, OnYes, OnNo}
 use Rattle.certificate_checker.specs.declared.multipliers.Aim.TheVariants.{Bound, Infeasible}
-use Rattle.certificate_checker.specs.declared.verdicts.Verdict.{Verdict}
 use Rattle.certificate_checker.specs.declared.verdicts.Verdict.TheVariants.{Yes, No, Width}
-use Rattle.certificate_checker.specs.Certificates.{AreMultipliersOver, bound_of, Proves, Refutes, BoundsAll, AdmitsNone}
-use Rattle.certificate_checker.specs.Conditions.{Condition, first_failing}
-use Rattle.certificate_checker.specs.Costs.{no_cost, cost_of}
-use Rattle.certificate_checker.specs.MultiplierChecks.{bound_conditions, infeasible_conditions, bound_value}
-use Rattle.certificate_checker.specs.Plans.{MeetsAll}
-use Rattle.certificate_checker.specs.Reasons.{Reason}
-use Rattle.certificate_checker.specs.Sums.{HasVariablesOf}
-use Rattle.certificate_checker.specs.Verdicts.{IsVerdict, IfYes, OnYes, OnNo}
 use Rattle.certificate_checker.proofs.DualityLaws.{Proves-bound, Refutes-none}
 use Rattle.certificate_checker.proofs.MultiplierMeaning.{bound-over, proves_from, proves_to, bound_passed, positive_from, positive_to}
 

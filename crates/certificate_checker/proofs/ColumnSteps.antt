@@ -1,28 +1,7 @@
 -- The sums of columns, entry by entry and row by row.
-use Rattle.std.proofs.Common.{◌≡◌, ℕ, zero, suc, ◌+◌, ◌<◌, ◌≤◌, ℤ, pos, Bool, true, false, ◌&&◌, List, [], ◌∷◌, ◌++◌, length, map, filter, drop, get_or, set, Option, Some, None, refl, sym, ap, ◌∙◌, subst, arith, add-one, inl, inr, ◌⊎◌, if◌then◌else◌}
-use Rattle.std.specs.List.{flat_map}
-use Rattle.std.specs.List.Sorted.{IsNonDecreasingBy, IsSortedBy}
-use Rattle.std.specs.Ordering.{is_eq, is_lt, ordering_index, ordering_reverse}
+use Rattle.certificate_checker.proofs.Common.{◌≡◌, ℕ, zero, suc, ◌+◌, ◌<◌, ◌≤◌, ℤ, pos, Bool, true, false, ◌&&◌, List, [], ◌∷◌, ◌++◌, length, map, filter, drop, get_or, set, Option, Some, None, refl, sym, ap, ◌∙◌, subst, arith, add-one, inl, inr, ◌⊎◌, if◌then◌else◌, flat_map, IsNonDecreasingBy, IsSortedBy, is_eq, is_lt, ordering_index, ordering_reverse, Ordering, cases_order, drop_more, get_or-set_same, get_or-set_other, at_drop_all, all_fit, Rational, plus, times, whole, value_of, Frac, all_fit-append, all_fit-nil, Row, RowName, Var, sum_from, term_formed, sum_from_formed, before_first, ascends, var_cmp, both_passed, ascends-first, var_cmp_total, var_cmp_exact, seen, with_term, continued, column_partial, entries_at, variable_at, sum_at, AreColumnSums, row_in_column, column_of}
 use Rattle.std.proofs.lemmas.List.Sorted.{searchable_from_sorted}
-use Rattle.std.specs.declared.cmp.Ordering.{Ordering}
 use Rattle.std.specs.declared.cmp.Ordering.TheVariants.{Less, Equal as Alike, Greater}
-use Rattle.std.proofs.lemmas.Bool.{cases_order}
-use Rattle.std.proofs.lemmas.List.{drop_more, get_or-set_same, get_or-set_other, at_drop_all}
-use Rattle.exact_num.specs.Range.{all_fit}
-use Rattle.exact_num.specs.Rational.{Rational, plus, times, whole}
-use Rattle.exact_num.specs.Value.{value_of}
-use Rattle.exact_num.specs.declared.fraction.Frac.{Frac}
-use Rattle.exact_num.proofs.StepLaws.{all_fit-append, all_fit-nil}
-use Rattle.row_core.specs.declared.Row.{Row}
-use Rattle.row_core.specs.declared.RowName.{RowName}
-use Rattle.row_core.specs.declared.Var.{Var}
-use Rattle.row_core.specs.Evaluated.{sum_from, term_formed, sum_from_formed}
-use Rattle.row_core.specs.Numbers.{before_first, ascends}
-use Rattle.row_core.specs.Order.{var_cmp}
-use Rattle.row_core.proofs.AscendingLaws.{both_passed, ascends-first}
-use Rattle.row_core.proofs.Orders.{var_cmp_total, var_cmp_exact}
-use Rattle.certificate_checker.specs.ColumnSums.{seen, with_term, continued, column_partial, entries_at, variable_at, sum_at, AreColumnSums}
-use Rattle.row_core.specs.Columns.{row_in_column, column_of}
 use Rattle.certificate_checker.proofs.SumSteps.{sum_from-append, sum_fits-append}
 
 abbrev pub none : Var

@@ -1,15 +1,7 @@
 -- Conditions that are looked at in turn, one by one and part by part.
-use Rattle.std.proofs.Common.{◌≡◌, ℕ, ◌+◌, ◌<◌, ◌≤◌, Bool, true, false, List, [], ◌∷◌, ◌++◌, length, map, drop, get_or, Option, Some, None, refl, sym, ap, ◌∙◌, subst, if◌then◌else◌}
-use Rattle.std.proofs.lemmas.List.{drop_more, at_drop_all}
+use Rattle.certificate_checker.proofs.Common.{◌≡◌, ℕ, ◌+◌, ◌<◌, ◌≤◌, Bool, true, false, List, [], ◌∷◌, ◌++◌, length, map, drop, get_or, Option, Some, None, refl, sym, ap, ◌∙◌, subst, if◌then◌else◌, drop_more, at_drop_all, Step, first_wide, first_wide-append, first_wide-nil, Place, Halt, Condition, steps, first_failing, AllPass, FailsFor, IsWideAt, IsHalt, Reason}
 use Rattle.std.specs.Option.{option_or}
-use Rattle.exact_num.specs.Steps.{Step, first_wide}
-use Rattle.exact_num.proofs.StepLaws.{first_wide-append, first_wide-nil}
-use Rattle.row_core.specs.declared.place.Place.{Place}
-use Rattle.certificate_checker.specs.declared.verdicts.Halt.{Halt}
 use Rattle.certificate_checker.specs.declared.verdicts.Halt.TheVariants.{No, Width}
-use Rattle.certificate_checker.specs.Conditions.{Condition, steps, first_failing, AllPass, FailsFor, IsWideAt}
-use Rattle.certificate_checker.specs.Halts.{IsHalt}
-use Rattle.certificate_checker.specs.Reasons.{Reason}
 
 -- ---- lists of steps
 

@@ -1,17 +1,5 @@
 -- What values cost, variable by variable.
-use Rattle.std.proofs.Common.{◌≡◌, ◌≢◌, ℕ, ◌+◌, ◌<◌, ◌≤◌, ℤ, pos, Bool, true, false, ◌&&◌, List, [], ◌∷◌, ◌++◌, length, drop, get_or, refl, sym, ap, ◌∙◌, if◌then◌else◌}
-use Rattle.std.proofs.lemmas.List.{drop_more, at_drop_all}
-use Rattle.exact_num.specs.Range.{InRange, all_fit}
-use Rattle.exact_num.specs.Rational.{Rational, plus, times, whole}
-use Rattle.exact_num.proofs.StepLaws.{all_fit-nil}
-use Rattle.row_core.specs.declared.Var.{Var}
-use Rattle.row_core.specs.Evaluated.{sum_from, term_formed, sum_from_formed}
-use Rattle.row_core.specs.Numbers.{is_zero, numbers_of, all_in_range}
-use Rattle.row_core.specs.Rows.{number_at}
-use Rattle.row_core.proofs.CombinedLaws.{all_fit-from_range}
-use Rattle.row_core.proofs.DivisionLaws.{nonzero-test}
-use Rattle.row_core.proofs.PlanValueLaws.{number_at-fits}
-use Rattle.certificate_checker.specs.Costs.{cost_entries}
+use Rattle.certificate_checker.proofs.Common.{◌≡◌, ◌≢◌, ℕ, ◌+◌, ◌<◌, ◌≤◌, ℤ, pos, Bool, true, false, ◌&&◌, List, [], ◌∷◌, ◌++◌, length, drop, get_or, refl, sym, ap, ◌∙◌, if◌then◌else◌, drop_more, at_drop_all, InRange, all_fit, Rational, all_fit-nil, Var, sum_from, term_formed, sum_from_formed, is_zero, numbers_of, all_in_range, number_at, all_fit-from_range, nonzero-test, number_at-fits, cost_entries}
 use Rattle.certificate_checker.proofs.SumSteps.{sum_from-append, sum_fits-append, sum_fits-one}
 
 -- a number of a list that fits does
@@ -38,14 +26,6 @@ none_fits value s cost v h = ap (λ es. all_fit (sum_from_formed value s es)) (e
 
 pub one_fits : (value : Var → Rational) (s : Rational) (cost : Var → ℤ) (v : Var) → cost v ≢ pos 0 → all_fit (sum_from_formed value s (cost_entries cost (v ∷ []))) ≡ all_fit (term_formed s (cost v) (value v))
 one_fits value s cost v h = ap (λ es. all_fit (sum_from_formed value s es)) (entries-one cost v h) ∙ sum_fits-one value s (v, cost v)
-
-pub none_sum : (value : Var → Rational) (s : Rational) (cost : Var → ℤ) (v : Var) → cost v ≡ pos 0 → sum_from value s (cost_entries cost (v ∷ [])) ≡ s
-none_sum value s cost v h = ap (sum_from value s) (entries-none cost v h)
-
-pub one_sum : (value : Var → Rational) (s : Rational) (cost : Var → ℤ) (v : Var) → cost v ≢ pos 0 → sum_from value s (cost_entries cost (v ∷ [])) ≡ plus s (times (whole (cost v)) (value v))
-one_sum value s cost v h = ap (sum_from value s) (entries-one cost v h)
-
--- ---- the variables that are left
 
 left : (cost : Var → ℤ) (vs : List Var) (i : ℕ) (d : Var) → i < length vs → cost_entries cost (drop i vs) ≡ cost_entries cost (get_or vs i d ∷ []) ++ cost_entries cost (drop (i + 1) vs)
 left cost vs i d h = ap (cost_entries cost) (drop_more vs i d h) ∙ entries-first cost (get_or vs i d) (drop (i + 1) vs)

@@ -1,20 +1,7 @@
 -- Values of a list are whole numbers over one denominator.
-use Rattle.std.proofs.Common.{◌≡◌, ℕ, ◌*◌, ◌<◌, ℤ, pos, ◌*ℤ◌, Bool, true, false, List, [], ◌∷◌, map, refl, sym, subst, arith, if◌then◌else◌}
+use Rattle.certificate_checker.proofs.Common.{◌≡◌, ℕ, ◌*◌, ◌<◌, ℤ, pos, ◌*ℤ◌, Bool, true, false, List, [], ◌∷◌, map, refl, sym, subst, arith, if◌then◌else◌, AllByRecursion, is_eq, Ordering, ints, Rational, whole, value_of, Frac, *ℤ_pos, pos-unsigned_abs, products, valued, or_zero, value_in, IsOver, AreOverSome, HasPositiveBottom, IsOver-multiplied, IsOver-own, IsOver-zero}
 use Rattle.std.specs.Prelude.{◌<ℤ◌, unsigned_abs, Some}
-use Rattle.std.specs.List.{AllByRecursion}
-use Rattle.std.specs.Ordering.{is_eq}
-use Rattle.std.specs.declared.cmp.Ordering.{Ordering}
-use Rattle.std.proofs.lemmas.Int.{ints}
-use Rattle.exact_num.specs.Rational.{Rational, whole}
-use Rattle.exact_num.specs.Value.{value_of}
-use Rattle.exact_num.specs.declared.fraction.Frac.{Frac}
-use Rattle.exact_num.proofs.Integers.{*ℤ_pos, pos-unsigned_abs}
-use Rattle.exact_num.proofs.Ring.{products}
 use Rattle.row_core.specs.LookUps.{value_at}
-use Rattle.row_core.specs.Plans.{valued, or_zero, value_in}
-use Rattle.row_core.specs.Values.{IsOver}
-use Rattle.certificate_checker.specs.Denominators.{AreOverSome, HasPositiveBottom}
-use Rattle.row_core.proofs.SumLaws.{IsOver-multiplied, IsOver-own, IsOver-zero}
 
 -- one value more: its own denominator times the others
 abbrev number_with : {K : Type 0} → (K → K → Ordering) → K × Rational → ℤ → (K → ℤ) → K → ℤ

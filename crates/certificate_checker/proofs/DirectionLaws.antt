@@ -1,20 +1,5 @@
 -- With one plan and a direction there is a plan of any lower cost.
-use Rattle.std.proofs.Common.{◌≡◌, ℕ, suc, ℤ, pos, negsuc, ◌+ℤ◌, ◌-ℤ◌, ◌*ℤ◌, Bool, true, false, List, [], ◌∷◌, sym, ap, ◌∙◌, subst, arith}
-use Rattle.std.specs.Prelude.{◌<ℤ◌, ◌≤ℤ◌, unsigned_abs}
-use Rattle.std.proofs.lemmas.Int.{ints}
-use Rattle.exact_num.proofs.Integers.{≤ℤ-*ℤ, *ℤ_nonnegative}
-use Rattle.exact_num.proofs.Ring.{ring, *ℤ-zero}
-use Rattle.row_core.specs.declared.Row.{Row}
-use Rattle.row_core.specs.declared.Sense.{Sense}
-use Rattle.row_core.specs.declared.Sense.TheVariants.{Least, Equal, Most}
-use Rattle.row_core.specs.declared.Var.{Var}
-use Rattle.row_core.specs.Kinds.{kind_is_free}
-use Rattle.row_core.specs.Rows.{row_sum}
-use Rattle.row_core.specs.Statements.{Stands}
-use Rattle.certificate_checker.specs.Costs.{cost_of}
-use Rattle.certificate_checker.specs.Plans.{AllStand, IsRight, HaveRightSigns, MeetsAll}
-use Rattle.certificate_checker.specs.Sums.{sum_over}
-use Rattle.certificate_checker.specs.Certificates.{Descends, CostsLess}
+use Rattle.certificate_checker.proofs.Common.{◌≡◌, ℕ, suc, ℤ, pos, negsuc, ◌+ℤ◌, ◌-ℤ◌, ◌*ℤ◌, Bool, true, false, List, [], ◌∷◌, sym, ap, ◌∙◌, subst, arith, ◌<ℤ◌, ◌≤ℤ◌, unsigned_abs, ints, ≤ℤ-*ℤ, *ℤ_nonnegative, ring, *ℤ-zero, Row, Sense, Least, Equal, Most, Var, kind_is_free, row_sum, Stands, cost_of, AllStand, IsRight, HaveRightSigns, MeetsAll, sum_over, Descends, CostsLess}
 
 -- the plan moved along the direction
 abbrev along : (Var → ℤ) → ℕ → (Var → ℤ) → Var → ℤ

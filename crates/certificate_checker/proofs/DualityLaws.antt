@@ -1,23 +1,5 @@
 -- Weak duality.
-use Rattle.std.proofs.Common.{◌≡◌, ℕ, ◌<◌, ℤ, pos, neg_ℤ, ◌+ℤ◌, ◌*ℤ◌, Bool, true, false, List, [], ◌∷◌, sym, ap, ◌∙◌, subst, arith}
-use Rattle.std.specs.Prelude.{◌<ℤ◌, ◌≤ℤ◌}
-use Rattle.std.proofs.lemmas.Int.{ints}
-use Rattle.exact_num.proofs.Integers.{≤ℤ-*ℤ, *ℤ-≤ℤ, *ℤ_pos}
-use Rattle.exact_num.proofs.Ring.{ring, products, zero-*ℤ, *ℤ_comm, neg_ℤ-*ℤ}
-use Rattle.row_core.specs.declared.Row.{Row}
-use Rattle.row_core.specs.declared.RowName.{RowName}
-use Rattle.row_core.specs.declared.Sense.{Sense}
-use Rattle.row_core.specs.declared.Sense.TheVariants.{Least, Equal, Most}
-use Rattle.row_core.specs.declared.Var.{Var}
-use Rattle.row_core.specs.Kinds.{kind_is_free}
-use Rattle.row_core.specs.Numbers.{ascends}
-use Rattle.row_core.specs.Order.{var_cmp}
-use Rattle.row_core.specs.Rows.{row_sum}
-use Rattle.row_core.specs.Statements.{Stands}
-use Rattle.certificate_checker.specs.Costs.{no_cost, cost_of}
-use Rattle.certificate_checker.specs.Plans.{AllStand, IsRight, HaveRightSigns, MeetsAll}
-use Rattle.certificate_checker.specs.Sums.{sum_over, weighted, column_sum, HasVariablesOf}
-use Rattle.certificate_checker.specs.Certificates.{IsSigned, AreSigned, IsWithin, AreWithin, bound_of, Proves, Refutes}
+use Rattle.certificate_checker.proofs.Common.{◌≡◌, ℕ, ◌<◌, ℤ, pos, neg_ℤ, ◌+ℤ◌, ◌*ℤ◌, Bool, true, false, List, [], ◌∷◌, sym, ap, ◌∙◌, subst, arith, ◌<ℤ◌, ◌≤ℤ◌, ints, ≤ℤ-*ℤ, *ℤ-≤ℤ, *ℤ_pos, ring, products, zero-*ℤ, *ℤ_comm, neg_ℤ-*ℤ, Row, RowName, Sense, Least, Equal, Most, Var, kind_is_free, ascends, var_cmp, row_sum, Stands, no_cost, cost_of, AllStand, IsRight, HaveRightSigns, MeetsAll, sum_over, weighted, column_sum, HasVariablesOf, IsSigned, AreSigned, IsWithin, AreWithin, bound_of, Proves, Refutes}
 use Rattle.certificate_checker.proofs.SumLaws.{sum_over-same, sum_over-times, sum_over-zero, weighted-by_columns}
 
 -- a factor that is not positive turns the order

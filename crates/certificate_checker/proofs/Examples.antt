@@ -1,30 +1,7 @@
 -- The definitions, computed on a small model: an activity x of at least 10, a capacity n of at least x, and the cost c = 6n + 2x.
-use Rattle.std.proofs.Common.{◌≡◌, ℕ, ◌^◌, ℤ, pos, negsuc, Bool, true, false, List, [], ◌∷◌, refl, if◌then◌else◌}
+use Rattle.certificate_checker.proofs.Common.{◌≡◌, ℕ, ◌^◌, ℤ, pos, negsuc, Bool, true, false, List, [], ◌∷◌, refl, if◌then◌else◌, is_eq, nat_cmp, difference_formed, all_fit, in_range, Rational, pair, whole, lowest, plus, minus, times, order_of, first_wide, Row, RowName, Sense, Least, Equal, Most, Var, RATE_OF_ACTIVITY, NEW_CAPACITY, TRADE, TOTAL_DISCOUNTED_COST, Column, SumBound, SumCost, SumGap, evaluated, kind_is_free, var_cmp, stands, Plan, Direction, Condition, formed_at, steps, first_failing, model_cost, cost_entries, cost_of, total, gap_formed, gap_condition, is_signed, is_within, absolute, row_condition, sign_condition, below_zero, cost_not_negative, sum_not_positive}
 use Rattle.std.specs.Prelude.{Some, None}
-use Rattle.std.specs.Ordering.{is_eq, nat_cmp}
-use Rattle.exact_num.specs.Formed.{difference_formed}
 use Rattle.exact_num.specs.Gcd.{gcd_of, gcd_within}
-use Rattle.exact_num.specs.Range.{all_fit, in_range}
-use Rattle.exact_num.specs.Rational.{Rational, pair, whole, lowest, plus, minus, times, order_of}
-use Rattle.exact_num.specs.Steps.{first_wide}
-use Rattle.row_core.specs.declared.Row.{Row}
-use Rattle.row_core.specs.declared.RowName.{RowName}
-use Rattle.row_core.specs.declared.Sense.{Sense}
-use Rattle.row_core.specs.declared.Sense.TheVariants.{Least, Equal, Most}
-use Rattle.row_core.specs.declared.Var.{Var}
-use Rattle.row_core.specs.declared.kind_numbers.TheConstants.{RATE_OF_ACTIVITY, NEW_CAPACITY, TRADE, TOTAL_DISCOUNTED_COST}
-use Rattle.row_core.specs.declared.place.Place.TheVariants.{Column, SumBound, SumCost, SumGap}
-use Rattle.row_core.specs.Evaluated.{evaluated}
-use Rattle.row_core.specs.Kinds.{kind_is_free}
-use Rattle.row_core.specs.Order.{var_cmp}
-use Rattle.row_core.specs.Statements.{stands}
-use Rattle.certificate_checker.specs.declared.values.Subject.TheVariants.{Plan, Direction}
-use Rattle.certificate_checker.specs.Conditions.{Condition, formed_at, steps, first_failing}
-use Rattle.certificate_checker.specs.Costs.{model_cost, cost_entries, cost_of, total}
-use Rattle.certificate_checker.specs.Gaps.{gap_formed, gap_condition}
-use Rattle.certificate_checker.specs.MultiplierChecks.{is_signed, is_within}
-use Rattle.certificate_checker.specs.PlanChecks.{absolute, row_condition, sign_condition}
-use Rattle.certificate_checker.specs.Reasons.{below_zero, cost_not_negative, sum_not_positive}
 
 abbrev variable : ℕ → Var
 variable kind = record { kind = kind; index = record { region = 0; other = 0; slice = 0; tech = 0; fuel = 0; emission = 0; mode = 0; year = 0 } }

@@ -1,6 +1,5 @@
 -- That no condition fails is that each holds.
-use Rattle.std.proofs.Common.{◌≡◌, Bool, true, false, List, [], ◌∷◌, ◌++◌, Some, None, refl, ap, ◌∙◌, if◌then◌else◌}
-use Rattle.certificate_checker.specs.Conditions.{Condition, first_failing}
+use Rattle.certificate_checker.proofs.Common.{◌≡◌, Bool, true, false, List, [], ◌∷◌, ◌++◌, Some, None, refl, ap, ◌∙◌, if◌then◌else◌, Condition, first_failing}
 
 pub first_holds : (c : Condition) (cs : List Condition) → first_failing (c ∷ cs) ≡ None → c.holds ≡ true
 first_holds c cs h = cases c.holds h

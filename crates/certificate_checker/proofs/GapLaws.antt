@@ -1,25 +1,6 @@
 -- When a cost is within the gap, and what is formed to see it.
-use Rattle.std.proofs.Common.{◌≡◌, ℕ, ℤ, pos, ◌-ℤ◌, ◌*ℤ◌, Bool, true, false, ◌&&◌, List, [], ◌∷◌, ◌++◌, Some, None, refl, sym, ap, ap₂, ◌∙◌, subst, arith, if◌then◌else◌}
-use Rattle.std.specs.Prelude.{int_lt, unsigned_abs, ◌<ℤ◌, ◌≤ℤ◌, ◌↔◌}
-use Rattle.std.specs.Int.Signed.{le_z}
-use Rattle.std.specs.Ordering.{is_le, int_cmp}
-use Rattle.std.proofs.lemmas.Int.{ints}
-use Rattle.exact_num.specs.Formed.{difference_formed, product_formed}
-use Rattle.exact_num.specs.Range.{all_fit}
-use Rattle.exact_num.specs.Rational.{Rational, lowest, minus, times, order_of}
-use Rattle.exact_num.proofs.Integers.{*ℤ_pos, *ℤ_nonnegative, *ℤ-≤ℤ}
-use Rattle.exact_num.proofs.Ring.{products, zero-*ℤ}
-use Rattle.exact_num.proofs.StepLaws.{all_fit-append, all_fit-nil}
-use Rattle.row_core.specs.declared.place.Place.TheVariants.{SumGap}
-use Rattle.row_core.specs.Values.{IsOver}
-use Rattle.row_core.proofs.SumLaws.{IsOver-ratio, IsOver-times, IsOver-own, IsOver-multiplied}
-use Rattle.certificate_checker.specs.declared.verdicts.Verdict.{Verdict}
+use Rattle.certificate_checker.proofs.Common.{◌≡◌, ℕ, ℤ, pos, ◌-ℤ◌, ◌*ℤ◌, Bool, true, false, ◌&&◌, List, [], ◌∷◌, ◌++◌, Some, None, refl, sym, ap, ap₂, ◌∙◌, subst, arith, if◌then◌else◌, int_lt, unsigned_abs, ◌<ℤ◌, ◌≤ℤ◌, ◌↔◌, le_z, is_le, int_cmp, ints, difference_formed, product_formed, all_fit, Rational, lowest, minus, times, order_of, *ℤ_pos, *ℤ_nonnegative, *ℤ-≤ℤ, products, zero-*ℤ, all_fit-append, all_fit-nil, SumGap, IsOver, IsOver-ratio, IsOver-times, IsOver-own, IsOver-multiplied, Verdict, Condition, AllPass, FailsFor, IsWideAt, first_failing, Within, part_of, gap_formed, gap_condition, absolute, Reason, gap_passed, IsVerdict, OnYes, OnNo}
 use Rattle.certificate_checker.specs.declared.verdicts.Verdict.TheVariants.{Yes, No, Width}
-use Rattle.certificate_checker.specs.Conditions.{Condition, AllPass, FailsFor, IsWideAt, first_failing}
-use Rattle.certificate_checker.specs.Gaps.{Within, part_of, gap_formed, gap_condition}
-use Rattle.certificate_checker.specs.PlanChecks.{absolute}
-use Rattle.certificate_checker.specs.Reasons.{Reason, gap_passed}
-use Rattle.certificate_checker.specs.Verdicts.{IsVerdict, OnYes, OnNo}
 use Rattle.certificate_checker.proofs.ConditionLaws.{Passes-alone}
 use Rattle.certificate_checker.proofs.FailingLaws.{first_holds}
 use Rattle.certificate_checker.proofs.OverLaws.{over_order, over_nonpositive, most_from, most_to}

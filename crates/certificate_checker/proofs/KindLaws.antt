@@ -1,10 +1,7 @@
 -- A kind that isn't listed isn't free.
-use Rattle.std.proofs.Common.{◌≡◌, ℕ, zero, suc, ◌-◌, ◌<◌, ◌≤◌, false, List, [], ◌∷◌, refl, ap, arith, length}
-use Rattle.std.specs.Prelude.{nat_le}
+use Rattle.certificate_checker.proofs.Common.{◌≡◌, ℕ, zero, suc, ◌-◌, ◌<◌, ◌≤◌, false, List, [], ◌∷◌, refl, ap, arith, length, nat_le, KIND_COUNT, Kind, kinds, kind_at, kind_is_free, no_kind}
 use Rattle.std.proofs.lemmas.Bool.Decides.{nat_tests}
 use Rattle.std.proofs.Math.ListN.{get_or-eq_default}
-use Rattle.row_core.specs.declared.kind_numbers.TheConstants.{KIND_COUNT}
-use Rattle.row_core.specs.Kinds.{Kind, kinds, kind_at, kind_is_free, no_kind}
 
 pub none_above : (kind : ℕ) → KIND_COUNT < kind → kind_is_free kind ≡ false
 none_above kind h = ap (λ (k : Kind). k.free) (get_or-eq_default kinds no_kind {n = kind - 1} (omega arith))

@@ -1,3 +1,4 @@
+mod Common
 pub mod ConditionLaws
 pub mod ValueChecks
 pub mod KindLaws

@@ -1,36 +1,5 @@
 -- What it means that all conditions on multipliers pass.
-use Rattle.std.proofs.Common.{◌≡◌, ℕ, ◌<◌, ℤ, pos, ◌+ℤ◌, ◌*ℤ◌, Bool, true, false, List, [], ◌∷◌, ◌++◌, map, filter, Some, None, refl, sym, ap, ap₂, ◌∙◌, subst, arith, inl, inr, if◌then◌else◌}
-use Rattle.std.specs.List.{flat_map}
-use Rattle.std.specs.Prelude.{int_lt, int_le, ◌<ℤ◌, ◌≤ℤ◌, ◌↔◌}
-use Rattle.std.specs.Ordering.{is_eq, int_cmp}
-use Rattle.std.proofs.lemmas.Int.{ints}
-use Rattle.exact_num.specs.Rational.{Rational, whole, plus, times, order_of}
-use Rattle.exact_num.specs.Value.{value_of}
-use Rattle.exact_num.proofs.Integers.{≤ℤ_or_<ℤ}
-use Rattle.exact_num.proofs.OrderLaws.{int_cmp-equal}
-use Rattle.exact_num.proofs.Ring.{ring, products, zero-*ℤ, zero-+ℤ, +ℤ-zero}
-use Rattle.row_core.specs.declared.Row.{Row}
-use Rattle.row_core.specs.declared.RowName.{RowName}
-use Rattle.row_core.specs.declared.Sense.{Sense}
-use Rattle.row_core.specs.declared.Sense.TheVariants.{Least, Equal, Most}
-use Rattle.row_core.specs.declared.Var.{Var}
-use Rattle.row_core.specs.Evaluated.{sum_from}
-use Rattle.row_core.specs.Kinds.{kind_is_free}
-use Rattle.row_core.specs.Order.{var_cmp, row_name_cmp}
-use Rattle.row_core.specs.Plans.{value_in}
-use Rattle.row_core.specs.Rows.{number_at, row_sum}
-use Rattle.row_core.specs.Values.{IsOver, alone}
-use Rattle.row_core.proofs.EvaluatedLaws.{term-IsOver}
-use Rattle.row_core.proofs.MeaningLaws.{row_sum-alone}
-use Rattle.row_core.proofs.SumLaws.{IsOver-plus, IsOver-whole, IsOver-zero}
-use Rattle.certificate_checker.specs.declared.multipliers.Aim.{Aim}
-use Rattle.certificate_checker.specs.declared.multipliers.Aim.TheVariants.{Bound, Infeasible}
-use Rattle.certificate_checker.specs.Certificates.{IsSigned, AreSigned, IsWithin, AreWithin, bound_of, Proves}
-use Rattle.certificate_checker.specs.Conditions.{Condition, first_failing}
-use Rattle.certificate_checker.specs.Costs.{total}
-use Rattle.row_core.specs.Columns.{row_in_column, column_of}
-use Rattle.certificate_checker.specs.MultiplierChecks.{is_signed, multiplier_condition, is_within, column_condition, right_sides, bound_value, bound_condition, multiplier_conditions}
-use Rattle.certificate_checker.specs.Sums.{weighted, column_sum}
+use Rattle.certificate_checker.proofs.Common.{◌≡◌, ℕ, ◌<◌, ℤ, pos, ◌+ℤ◌, ◌*ℤ◌, Bool, true, false, List, [], ◌∷◌, ◌++◌, map, filter, None, refl, sym, ap, ap₂, ◌∙◌, subst, arith, inl, inr, if◌then◌else◌, int_lt, int_le, ◌<ℤ◌, ◌≤ℤ◌, ◌↔◌, is_eq, int_cmp, ints, Rational, whole, plus, times, order_of, ≤ℤ_or_<ℤ, int_cmp-equal, ring, products, zero-*ℤ, zero-+ℤ, +ℤ-zero, Row, RowName, Sense, Least, Equal, Most, Var, sum_from, kind_is_free, var_cmp, number_at, row_sum, IsOver, alone, term-IsOver, row_sum-alone, IsOver-plus, IsOver-whole, IsOver-zero, Aim, IsSigned, AreSigned, IsWithin, AreWithin, bound_of, Proves, first_failing, total, row_in_column, column_of, is_signed, multiplier_condition, is_within, column_condition, right_sides, bound_value, bound_condition, multiplier_conditions, column_sum}
 use Rattle.certificate_checker.proofs.FailingLaws.{first_holds, rest_hold, hold_both, hold_parts, hold_joined}
 use Rattle.certificate_checker.proofs.OverLaws.{over_nonnegative, over_nonpositive, over_order, equal_from, most_from, most_to}
 
@@ -47,10 +16,6 @@ key_sum-append y (e ∷ es) fs = ap (λ z. (e.1 *ℤ y e.0) +ℤ z) (key_sum-app
   where
     assoc : (a b c : ℤ) → a +ℤ (b +ℤ c) ≡ (a +ℤ b) +ℤ c
     assoc a b c = omega (arith, ints)
-
--- the numbers that a row has at a variable
-one_entry : (n a r y : ℤ) → ((n *ℤ a) +ℤ r) *ℤ y ≡ (n *ℤ (a *ℤ y)) +ℤ (r *ℤ y)
-one_entry n a r y = simp ring
 
 entries_sum : (y : RowName → ℤ) (name : RowName) (v : Var) (es : List (Var × ℤ)) → key_sum y (map (λ e. (name, e.1)) (filter (λ e. is_eq (var_cmp e.0 v)) es)) ≡ row_sum (alone v) es *ℤ y name
 entries_sum y name v [] = sym (zero-*ℤ (y name))

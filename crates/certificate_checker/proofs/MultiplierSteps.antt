@@ -1,27 +1,5 @@
 -- One multiplier, one column, and the sum of right sides.
-use Rattle.std.proofs.Common.{◌≡◌, ℕ, ◌+◌, ◌<◌, ◌≤◌, ℤ, pos, Bool, true, false, ◌&&◌, List, [], ◌∷◌, ◌++◌, length, map, drop, get_or, Option, Some, None, refl, sym, ap, ap₂, ◌∙◌, subst, if◌then◌else◌}
-use Rattle.std.specs.Ordering.{is_eq, is_le}
-use Rattle.std.proofs.lemmas.List.{drop_more, at_drop_all}
-use Rattle.exact_num.specs.Formed.{difference_formed}
-use Rattle.exact_num.specs.Range.{all_fit}
-use Rattle.exact_num.specs.Rational.{Rational, whole, minus, plus, times, order_of}
-use Rattle.exact_num.specs.Steps.{first_wide}
-use Rattle.exact_num.proofs.StepLaws.{first_wide-nil, all_fit-append, all_fit-nil}
-use Rattle.row_core.specs.declared.Row.{Row}
-use Rattle.row_core.specs.declared.RowName.{RowName}
-use Rattle.row_core.specs.declared.Var.{Var}
-use Rattle.row_core.specs.declared.place.Place.{Place}
-use Rattle.row_core.specs.declared.place.Place.TheVariants.{Column, SumBound}
-use Rattle.row_core.specs.Evaluated.{sum_from, term_formed, sum_from_formed}
-use Rattle.row_core.specs.Kinds.{kind_is_free}
-use Rattle.certificate_checker.specs.declared.multipliers.Aim.{Aim}
-use Rattle.certificate_checker.specs.ColumnSums.{column_partial}
-use Rattle.certificate_checker.specs.Conditions.{Condition, AllPass, FailsFor, IsWideAt}
-use Rattle.certificate_checker.specs.Costs.{total, total_formed}
-use Rattle.row_core.specs.Columns.{column_of}
-use Rattle.certificate_checker.specs.MultiplierChecks.{is_signed, multiplier_condition, is_within, column_condition, right_sides, bound_value, bound_passes, bound_condition}
-use Rattle.certificate_checker.specs.PlanChecks.{absolute}
-use Rattle.certificate_checker.specs.Reasons.{wrongly_signed, column_off, sum_not_positive}
+use Rattle.certificate_checker.proofs.Common.{◌≡◌, ℕ, ◌+◌, ◌<◌, ◌≤◌, ℤ, pos, Bool, true, false, ◌&&◌, List, [], ◌∷◌, ◌++◌, length, map, drop, get_or, Option, Some, None, refl, sym, ap, ap₂, ◌∙◌, subst, if◌then◌else◌, is_eq, is_le, drop_more, at_drop_all, difference_formed, all_fit, Rational, whole, minus, plus, times, order_of, first_wide, first_wide-nil, all_fit-append, all_fit-nil, Row, RowName, Var, Place, Column, SumBound, sum_from, term_formed, sum_from_formed, kind_is_free, Aim, column_partial, Condition, AllPass, FailsFor, IsWideAt, total, total_formed, column_of, is_signed, multiplier_condition, is_within, column_condition, right_sides, bound_value, bound_passes, bound_condition, absolute, wrongly_signed, column_off, sum_not_positive}
 use Rattle.certificate_checker.proofs.ConditionLaws.{Passes, Passes-alone, passed_over}
 use Rattle.certificate_checker.proofs.ValueChecks.{formed_fit, formed_wide, fails_plainly, stops_at}
 

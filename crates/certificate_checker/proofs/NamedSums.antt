@@ -1,22 +1,10 @@
 -- Sums of multiplier times number over rows, with a part of their own at one name; and a bound with the price of what is more there.
-use Rattle.std.proofs.Common.{◌≡◌, ℤ, pos, ◌+ℤ◌, ◌*ℤ◌, Bool, true, false, List, [], ◌∷◌, refl, ap, ap₂, ◌∙◌, subst, inl, inr, arith}
+use Rattle.certificate_checker.proofs.Common.{◌≡◌, ℤ, pos, ◌+ℤ◌, ◌*ℤ◌, Bool, true, false, List, [], ◌∷◌, refl, ap, ap₂, ◌∙◌, subst, inl, inr, arith, is_eq, ordering_reverse, Ordering, ints, *ℤ_nonnegative, ≤ℤ-*ℤ, ≤ℤ_cancel, ring, products, *ℤ-zero, +ℤ-zero, zero-+ℤ, Row, RowName, ascends, row_name_cmp, ascends-first, ascends-tail, row_name_cmp_exact, row_name_cmp_total, weighted}
 use Rattle.std.specs.Prelude.{◌<ℤ◌, ◌≤ℤ◌, if◌then◌else◌}
-use Rattle.std.specs.Ordering.{is_eq, ordering_reverse}
-use Rattle.std.specs.declared.cmp.Ordering.{Ordering}
 use Rattle.std.specs.declared.cmp.Ordering.TheVariants.{Less, Equal as Alike, Greater}
 use Rattle.std.proofs.lemmas.Cmp.{tied_itself}
-use Rattle.std.proofs.lemmas.Int.{ints}
-use Rattle.exact_num.proofs.Integers.{*ℤ_nonnegative, ≤ℤ-*ℤ, ≤ℤ_cancel}
-use Rattle.exact_num.proofs.Ring.{ring, products, *ℤ-zero, +ℤ-zero, zero-+ℤ}
-use Rattle.row_core.specs.declared.Row.{Row}
-use Rattle.row_core.specs.declared.RowName.{RowName}
-use Rattle.row_core.specs.Numbers.{ascends}
-use Rattle.row_core.specs.Order.{row_name_cmp}
 use Rattle.row_core.specs.RowLists.{names_of}
-use Rattle.row_core.proofs.AscendingLaws.{ascends-first, ascends-tail}
 use Rattle.row_core.proofs.Members.{Contains-from_Has, Has, Has-map}
-use Rattle.row_core.proofs.Orders.{row_name_cmp_exact, row_name_cmp_total}
-use Rattle.certificate_checker.specs.Sums.{weighted}
 
 -- ---- names
 

@@ -1,29 +1,7 @@
 -- Exact values and whole numbers over one denominator: signs, order and sums.
-use Rattle.std.proofs.Common.{◌≡◌, ℕ, ◌<◌, ℤ, pos, ◌+ℤ◌, ◌-ℤ◌, ◌*ℤ◌, Bool, true, false, List, [], ◌∷◌, refl, sym, ap, ap₂, ◌∙◌, subst, arith, if◌then◌else◌}
-use Rattle.std.specs.Prelude.{◌<ℤ◌, ◌≤ℤ◌, ◌↔◌}
+use Rattle.certificate_checker.proofs.Common.{◌≡◌, ℕ, ◌<◌, ℤ, pos, ◌+ℤ◌, ◌-ℤ◌, ◌*ℤ◌, Bool, true, false, List, [], ◌∷◌, refl, sym, ap, ap₂, ◌∙◌, subst, arith, if◌then◌else◌, ◌<ℤ◌, ◌≤ℤ◌, ◌↔◌, is_eq, is_le, int_cmp, MatchOrdering, Ordering, ints, Rational, whole, order_of, *ℤ_pos, int_cmp-mul, ring, products, zero-*ℤ, zero-+ℤ, Sense, Least, Equal, Most, Var, sum_from, AreOver, is_zero, row_sum, Stands, IsOver, is_zero-fact, sum-IsOver, Stands-times, IsOver-zero, cost_entries, cost_value, cost_of, sum_over}
 use Rattle.std.specs.Cmp.{int_ranks}
-use Rattle.std.specs.Ordering.{is_eq, is_le, int_cmp, MatchOrdering}
-use Rattle.std.specs.declared.cmp.Ordering.{Ordering}
 use Rattle.std.specs.declared.cmp.Ordering.TheVariants.{Less, Equal as Alike, Greater}
-use Rattle.std.proofs.lemmas.Int.{ints}
-use Rattle.exact_num.specs.Rational.{Rational, whole, order_of}
-use Rattle.exact_num.proofs.Integers.{*ℤ_pos}
-use Rattle.exact_num.proofs.OrderLaws.{int_cmp-mul}
-use Rattle.exact_num.proofs.Ring.{ring, products, zero-*ℤ, zero-+ℤ}
-use Rattle.row_core.specs.declared.Sense.{Sense}
-use Rattle.row_core.specs.declared.Sense.TheVariants.{Least, Equal, Most}
-use Rattle.row_core.specs.declared.Var.{Var}
-use Rattle.row_core.specs.Evaluated.{sum_from, AreOver}
-use Rattle.row_core.specs.Numbers.{is_zero}
-use Rattle.row_core.specs.Rows.{row_sum}
-use Rattle.row_core.specs.Statements.{Stands}
-use Rattle.row_core.specs.Values.{IsOver}
-use Rattle.row_core.proofs.DivisionLaws.{is_zero-fact}
-use Rattle.row_core.proofs.EvaluatedLaws.{sum-IsOver}
-use Rattle.row_core.proofs.MeaningLaws.{Stands-times}
-use Rattle.row_core.proofs.SumLaws.{IsOver-zero}
-use Rattle.certificate_checker.specs.Costs.{cost_entries, cost_value, cost_of}
-use Rattle.certificate_checker.specs.Sums.{sum_over}
 
 -- ---- signs
 

@@ -1,28 +1,6 @@
 -- What the answers about plans and directions mean.
-use Rattle.std.proofs.Common.{◌≡◌, ℕ, ◌<◌, ℤ, pos, ◌*ℤ◌, true, List, [], ◌∷◌, map, Some, None, refl, sym, ap, ◌∙◌, subst, arith}
-use Rattle.std.specs.Prelude.{int_lt, ◌<ℤ◌}
-use Rattle.std.proofs.lemmas.Int.{ints}
-use Rattle.exact_num.specs.Rational.{Rational}
-use Rattle.exact_num.specs.Value.{value_of}
-use Rattle.exact_num.proofs.Ring.{zero-*ℤ}
-use Rattle.row_core.specs.declared.Row.{Row}
-use Rattle.row_core.specs.declared.Var.{Var}
-use Rattle.row_core.specs.Order.{var_cmp}
-use Rattle.row_core.specs.Plans.{value_in}
-use Rattle.row_core.specs.Rows.{row_sum}
-use Rattle.row_core.specs.Statements.{Stands}
-use Rattle.row_core.specs.Values.{IsOver}
-use Rattle.certificate_checker.specs.declared.values.Subject.{Subject}
-use Rattle.certificate_checker.specs.declared.values.Subject.TheVariants.{Plan, Direction}
-use Rattle.certificate_checker.specs.declared.verdicts.Verdict.{Verdict}
+use Rattle.certificate_checker.proofs.Common.{◌≡◌, ℕ, ◌<◌, ℤ, pos, ◌*ℤ◌, true, List, [], ◌∷◌, map, Some, None, refl, sym, ap, ◌∙◌, subst, arith, int_lt, ◌<ℤ◌, ints, Rational, value_of, zero-*ℤ, Row, Var, var_cmp, value_in, row_sum, Stands, IsOver, Subject, Plan, Direction, Verdict, Descends, CostsLess, Condition, first_failing, cost_value, cost_of, cost_passes, row_condition, sign_condition, cost_condition, value_conditions, plan_conditions, direction_conditions, AllStand, AreValuesOver, MeetsAll, Reason, IsVerdict, IfYes, OnYes, OnNo}
 use Rattle.certificate_checker.specs.declared.verdicts.Verdict.TheVariants.{Yes, No, Width}
-use Rattle.certificate_checker.specs.Certificates.{Descends, CostsLess}
-use Rattle.certificate_checker.specs.Conditions.{Condition, first_failing}
-use Rattle.certificate_checker.specs.Costs.{cost_value, cost_of}
-use Rattle.certificate_checker.specs.PlanChecks.{cost_passes, row_condition, sign_condition, cost_condition, value_conditions, plan_conditions, direction_conditions}
-use Rattle.certificate_checker.specs.Plans.{AllStand, AreValuesOver, MeetsAll}
-use Rattle.certificate_checker.specs.Reasons.{Reason}
-use Rattle.certificate_checker.specs.Verdicts.{IsVerdict, IfYes, OnYes, OnNo}
 use Rattle.certificate_checker.proofs.DirectionLaws.{Descends-less}
 use Rattle.certificate_checker.proofs.FailingLaws.{first_holds, hold_both, hold_parts, hold_joined}
 use Rattle.certificate_checker.proofs.OverLaws.{cost-IsOver}

@@ -1,24 +1,7 @@
 -- The sum of rows, row by row and column by column.
-use Rattle.std.proofs.Common.{◌≡◌, ℤ, pos, ◌+ℤ◌, ◌*ℤ◌, Bool, true, false, ◌||◌, ◌&&◌, ℕ, zero, suc, ◌<◌, ◌++◌, length, get_or, List, [], ◌∷◌, refl, sym, ap, ap₂, ◌∙◌, subst, arith, if◌then◌else◌}
-use Rattle.std.specs.Prelude.{Contains}
-use Rattle.std.specs.List.{flat_map}
-use Rattle.std.specs.Ordering.{is_eq, is_lt, ordering_reverse}
-use Rattle.std.specs.declared.cmp.Ordering.{Ordering}
+use Rattle.certificate_checker.proofs.Common.{◌≡◌, ℤ, pos, ◌+ℤ◌, ◌*ℤ◌, Bool, true, false, ◌||◌, ◌&&◌, ℕ, zero, suc, ◌<◌, ◌++◌, length, get_or, List, [], ◌∷◌, refl, sym, ap, ap₂, ◌∙◌, subst, arith, if◌then◌else◌, Contains, flat_map, is_eq, is_lt, ordering_reverse, Ordering, ints, ring, zero-*ℤ, *ℤ-zero, one-*ℤ, +ℤ-zero, zero-+ℤ, Row, RowName, Var, before_first, ascends, variables_of, var_cmp, number_at, row_sum, alone, both_passed, Less-from_test, ascends-skip, row_sum-alone, var_cmp_total, var_cmp_exact, sum_over, weighted, column_sum, HasVariablesOf}
 use Rattle.std.specs.declared.cmp.Ordering.TheVariants.{Less, Equal, Greater}
-use Rattle.std.proofs.lemmas.Int.{ints}
-use Rattle.exact_num.proofs.Ring.{ring, zero-*ℤ, *ℤ-zero, one-*ℤ, +ℤ-zero, zero-+ℤ}
-use Rattle.row_core.specs.declared.Row.{Row}
-use Rattle.row_core.specs.declared.RowName.{RowName}
-use Rattle.row_core.specs.declared.Var.{Var}
-use Rattle.row_core.specs.Numbers.{before_first, ascends, variables_of}
-use Rattle.row_core.specs.Order.{var_cmp}
-use Rattle.row_core.specs.Rows.{number_at, row_sum}
-use Rattle.row_core.specs.Values.{alone}
-use Rattle.row_core.proofs.AscendingLaws.{both_passed, Less-from_test, ascends-skip}
 use Rattle.std.proofs.lemmas.List.Elements.{Contains-append_left, Contains-append_right}
-use Rattle.row_core.proofs.MeaningLaws.{row_sum-alone}
-use Rattle.row_core.proofs.Orders.{var_cmp_total, var_cmp_exact}
-use Rattle.certificate_checker.specs.Sums.{sum_over, weighted, column_sum, HasVariablesOf}
 
 -- ---- variables that are among others
 

@@ -1,9 +1,5 @@
 -- Sums of products, part by part.
-use Rattle.std.proofs.Common.{◌≡◌, ℤ, pos, Bool, true, false, ◌&&◌, List, [], ◌∷◌, ◌++◌, refl, sym, ap, ◌∙◌}
-use Rattle.exact_num.specs.Range.{all_fit}
-use Rattle.exact_num.specs.Rational.{Rational, plus, times, whole}
-use Rattle.exact_num.proofs.StepLaws.{all_fit-append, all_fit-nil}
-use Rattle.row_core.specs.Evaluated.{sum_from, term_formed, sum_from_formed}
+use Rattle.certificate_checker.proofs.Common.{◌≡◌, ℤ, pos, Bool, true, false, ◌&&◌, List, [], ◌∷◌, ◌++◌, refl, sym, ap, ◌∙◌, all_fit, Rational, plus, times, whole, all_fit-append, all_fit-nil, sum_from, term_formed, sum_from_formed}
 
 and_assoc : (a b c : Bool) → (a && (b && c)) ≡ ((a && b) && c)
 and_assoc true b c = refl

@@ -1,24 +1,6 @@
 -- One row, one sign, and the cost of values.
-use Rattle.std.proofs.Common.{◌≡◌, ℤ, pos, Bool, true, false, ◌||◌, List, [], ◌∷◌, ◌++◌, None, refl, sym, ap, ◌∙◌, subst, if◌then◌else◌, arith, ap₂}
+use Rattle.certificate_checker.proofs.Common.{◌≡◌, ℤ, pos, Bool, true, false, ◌||◌, List, [], ◌∷◌, ◌++◌, None, refl, sym, ap, ◌∙◌, subst, if◌then◌else◌, arith, ap₂, lt_z, ints, all_fit, Rational, first_wide, first_wide-fits, first_wide-stops, first_wide-nil, Row, Var, Place, Check, SumCost, evaluated, evaluated_formed, kind_is_free, stands, Subject, Condition, formed_at, AllPass, FailsFor, IsWideAt, cost_entries, cost_value, total_formed, absolute, right_of, cost_passes, row_condition, sign_condition, cost_condition, row_missed, below_zero, cost_not_negative}
 use Rattle.std.specs.Prelude.{Some, int_le, not}
-use Rattle.std.specs.Int.Signed.{lt_z}
-use Rattle.std.proofs.lemmas.Int.{ints}
-use Rattle.exact_num.specs.Range.{all_fit}
-use Rattle.exact_num.specs.Rational.{Rational}
-use Rattle.exact_num.specs.Steps.{first_wide}
-use Rattle.exact_num.proofs.StepLaws.{first_wide-fits, first_wide-stops, first_wide-nil}
-use Rattle.row_core.specs.declared.Row.{Row}
-use Rattle.row_core.specs.declared.Var.{Var}
-use Rattle.row_core.specs.declared.place.Place.{Place}
-use Rattle.row_core.specs.declared.place.Place.TheVariants.{Check, SumCost}
-use Rattle.row_core.specs.Evaluated.{evaluated, evaluated_formed}
-use Rattle.row_core.specs.Kinds.{kind_is_free}
-use Rattle.row_core.specs.Statements.{stands}
-use Rattle.certificate_checker.specs.declared.values.Subject.{Subject}
-use Rattle.certificate_checker.specs.Conditions.{Condition, formed_at, AllPass, FailsFor, IsWideAt}
-use Rattle.certificate_checker.specs.Costs.{cost_entries, cost_value, total_formed}
-use Rattle.certificate_checker.specs.PlanChecks.{absolute, right_of, cost_passes, row_condition, sign_condition, cost_condition}
-use Rattle.certificate_checker.specs.Reasons.{row_missed, below_zero, cost_not_negative}
 use Rattle.certificate_checker.proofs.ConditionLaws.{Passes, Passes-alone, stopped_at, nothing_more}
 
 -- ---- numbers that are formed at one place

@@ -1,24 +1,7 @@
 -- What it means that all conditions on values pass.
-use Rattle.std.proofs.Common.{◌≡◌, ℕ, ◌<◌, ℤ, pos, ◌-ℤ◌, ◌*ℤ◌, Bool, true, false, ◌||◌, List, [], ◌∷◌, ◌++◌, map, Some, None, refl, sym, ap, ◌∙◌, arith, inl, inr}
+use Rattle.certificate_checker.proofs.Common.{◌≡◌, ℕ, ◌<◌, ℤ, pos, ◌-ℤ◌, ◌*ℤ◌, Bool, true, false, ◌||◌, List, [], ◌∷◌, ◌++◌, map, Some, None, refl, sym, ap, ◌∙◌, arith, inl, inr, ints, Rational, ≤ℤ_or_<ℤ, Row, Var, evaluated, AreOver, kind_is_free, row_sum, Stands, stands, IsOver, evaluated-IsOver, Subject, Plan, Direction, Condition, first_failing, cost_value, cost_of, right_of, cost_passes, row_condition, sign_condition, cost_condition, value_conditions, AllStand, IsRight, HaveRightSigns}
 use Rattle.std.specs.Prelude.{Option, int_le, int_lt, ◌<ℤ◌, ◌≤ℤ◌, ◌↔◌}
-use Rattle.std.proofs.lemmas.Int.{ints}
-use Rattle.exact_num.specs.Rational.{Rational}
-use Rattle.exact_num.proofs.Integers.{≤ℤ_or_<ℤ}
-use Rattle.row_core.specs.declared.Row.{Row}
-use Rattle.row_core.specs.declared.Var.{Var}
-use Rattle.row_core.specs.Evaluated.{evaluated, AreOver}
-use Rattle.row_core.specs.Kinds.{kind_is_free}
-use Rattle.row_core.specs.Rows.{row_sum}
-use Rattle.row_core.specs.Statements.{Stands, stands}
-use Rattle.row_core.specs.Values.{IsOver}
-use Rattle.row_core.proofs.EvaluatedLaws.{evaluated-IsOver}
 use Rattle.row_core.proofs.StatementLaws.{stands_sound, stands_complete}
-use Rattle.certificate_checker.specs.declared.values.Subject.{Subject}
-use Rattle.certificate_checker.specs.declared.values.Subject.TheVariants.{Plan, Direction}
-use Rattle.certificate_checker.specs.Conditions.{Condition, first_failing}
-use Rattle.certificate_checker.specs.Costs.{cost_value, cost_of}
-use Rattle.certificate_checker.specs.PlanChecks.{right_of, cost_passes, row_condition, sign_condition, cost_condition, value_conditions}
-use Rattle.certificate_checker.specs.Plans.{AllStand, IsRight, HaveRightSigns}
 use Rattle.certificate_checker.proofs.FailingLaws.{first_holds, rest_hold, hold_both, hold_parts}
 use Rattle.certificate_checker.proofs.OverLaws.{over_stands, over_nonnegative, cost-IsOver}
 

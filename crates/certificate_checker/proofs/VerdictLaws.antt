@@ -1,15 +1,6 @@
 -- The answer of what was found is the answer of the conditions.
-use Rattle.std.proofs.Common.{◌≡◌, List, subst, sym}
-use Rattle.std.specs.Prelude.{Result, Ok, Err, OnOk, IfOk, IfErr}
-use Rattle.exact_num.specs.Rational.{Rational}
-use Rattle.exact_num.specs.Value.{value_of}
-use Rattle.exact_num.specs.declared.fraction.Frac.{Frac}
-use Rattle.certificate_checker.specs.declared.verdicts.Halt.{Halt}
+use Rattle.certificate_checker.proofs.Common.{◌≡◌, List, subst, sym, Result, Ok, Err, OnOk, IfOk, IfErr, Rational, value_of, Frac, Halt, Verdict, Condition, AllPass, IsHalt, halted, verdict_of, IsVerdict}
 use Rattle.certificate_checker.specs.declared.verdicts.Halt.TheVariants.{No, Width}
-use Rattle.certificate_checker.specs.declared.verdicts.Verdict.{Verdict}
-use Rattle.certificate_checker.specs.Conditions.{Condition, AllPass}
-use Rattle.certificate_checker.specs.Halts.{IsHalt, halted, verdict_of}
-use Rattle.certificate_checker.specs.Verdicts.{IsVerdict}
 
 halted_is : (cs : List Condition) (value : Rational) (h : Halt) → IsHalt cs h → IsVerdict cs value (halted h)
 halted_is cs value (No rejection) h = h

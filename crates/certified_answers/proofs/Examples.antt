@@ -1,22 +1,15 @@
 -- The definitions, computed: each with a near miss.
-use Rattle.std.proofs.Common.{◌≡◌, ◌∙◌, ◌^◌, ℕ, pos, negsuc, true, false, List, [], ◌∷◌, refl, ap, inl, arith}
+use Rattle.certified_answers.proofs.Common.{◌≡◌, ◌∙◌, ◌^◌, ℕ, pos, negsuc, true, false, List, [], ◌∷◌, refl, ap, inl, arith, Some, None, Rational, pair, whole, RowName, Var, Condition, formed_at, is_model, weight_of, IsClosed, IsNear, plan_cost}
 use Rattle.std.proofs.lemmas.Int.{ints}
-use Rattle.std.specs.Prelude.{Some, None}
 use Rattle.exact_num.specs.Range.{all_fit, in_range}
-use Rattle.exact_num.specs.Rational.{Rational, pair, whole}
 use Rattle.exact_num.specs.Steps.{first_wide}
 use Rattle.row_core.specs.declared.Row.{Row}
-use Rattle.row_core.specs.declared.RowName.{RowName}
-use Rattle.row_core.specs.declared.Var.{Var}
 use Rattle.row_core.specs.declared.place.Place.TheVariants.{CostRow, SumGap}
 use Rattle.row_core.specs.declared.place.Stopped.TheVariants as parts
 use Rattle.row_core.specs.declared.kind_numbers.TheConstants.{NEW_CAPACITY, RATE_OF_ACTIVITY, TOTAL_DISCOUNTED_COST}
 use Rattle.row_core.proofs.Members.{Contains-from_Has, Has-from_Contains}
-use Rattle.certificate_checker.specs.Conditions.{Condition, formed_at}
 use Rattle.certificate_checker.specs.Reasons.{Reason}
 use Rattle.certified_answers.specs.Answers.{AreNamedIn, IsComplete, IsMadeWithin, IsOptimumFor, IsProvedWithin, turned}
-use Rattle.certified_answers.specs.Costs.{is_model, weight_of}
-use Rattle.certified_answers.specs.Worth.{IsClosed, IsNear, plan_cost}
 use Rattle.certified_answers.specs.Refusals.{IsRefused, IsWidthAt, passes, stop_of}
 use Rattle.certified_answers.specs.declared.answers.Certified.TheVariants.{Infeasible, Unbounded}
 use Rattle.certified_answers.specs.declared.answers.NoAnswer.TheVariants.{Nothing, Budget, Width}

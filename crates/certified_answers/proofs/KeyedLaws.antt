@@ -1,16 +1,12 @@
 -- Lists of fractions by key, as their values.
-use Rattle.std.proofs.Common.{◌≡◌, pos, Bool, true, false, List, [], ◌∷◌, map, refl, sym, ap, subst, if◌then◌else◌}
-use Rattle.std.specs.Prelude.{IsTrue, Some}
+use Rattle.certified_answers.proofs.Common.{◌≡◌, pos, Bool, true, false, List, [], ◌∷◌, map, refl, sym, ap, subst, if◌then◌else◌, IsTrue, Some, IsLowest, Rational, value_of, or_zero, value_in, valued}
 use Rattle.std.specs.Ordering.{is_eq}
 use Rattle.std.specs.declared.cmp.Ordering.{Ordering}
-use Rattle.exact_num.specs.Rational.{IsLowest, Rational}
-use Rattle.exact_num.specs.Value.{value_of}
 use Rattle.exact_num.specs.declared.fraction.Frac.{Frac}
 use Rattle.exact_num.proofs.RationalLaws.{whole-IsLowest}
 use Rattle.exact_num.proofs.ValueLaws.{value_of-IsLowest}
 use Rattle.row_core.specs.LookUps.{value_at}
 use Rattle.row_core.specs.Numbers.{ascends, keys_of}
-use Rattle.row_core.specs.Plans.{or_zero, value_in, valued}
 
 keys-valued : {K : Type 0} (es : List (K × Frac)) → keys_of (map valued es) ≡ keys_of es
 keys-valued [] = refl

@@ -1,11 +1,8 @@
 -- What clap's contract says of the command that it is given here.
-use Rattle.std.proofs.Common.{◌≡◌, ◌∙◌, ap, sym, refl, subst, List, [], ◌∷◌, Some, None, true, cond}
+use Rattle.command_words.proofs.Common.{◌≡◌, ◌∙◌, ap, sym, refl, subst, List, [], ◌∷◌, Some, None, true, cond, Kinds, IsAmong, fault_of, is_simple_and_free, app, clap_rows, is_fault}
 use Rattle.clap.specs.Words.{App, Row, Text, is_simple, matches_of}
-use Rattle.clap.specs.Kinds.{Kinds, IsAmong}
-use Rattle.clap.specs.Faults.{fault_of, is_simple_and_free}
 use Rattle.clap.specs.declared.error.kind.ErrorKind.{ErrorKind}
 use Rattle.clap.proofs.OnLiterals.{clap_on_literals}
-use Rattle.command_words.specs.ClapWords.{app, clap_rows, is_fault}
 
 -- the command is one of which clap says which words it takes
 pub simple : (a : App) → a ≡ app → is_simple a ≡ true

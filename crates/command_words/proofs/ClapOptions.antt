@@ -1,17 +1,6 @@
 -- What clap makes of one word that is an option, at the command that it is given here.
 use Rattle.std.proofs.Common.{rules as std_rules, ◌≡◌, ◌∙◌, ◌||◌, ◌==◌, ◌+◌, arith, take, drop, ℕ, suc, List, [], ◌∷◌, map, Option, Some, None, Bool, true, false, cond, refl, ap, sym, true≢false, length, subst, option_map}
-use Rattle.std.specs.Prelude.{codes, find, slice_get, unwrap_or}
-use Rattle.std.specs.List.{AllByRecursion, list_any, before_first, after_first, position_or_len}
-use Rattle.std.specs.Char.{encode_utf8}
-use Rattle.std.specs.Str.{bytes_eq, chars, encode_utf8_all, IsUtf8}
-use Rattle.std.proofs.lemmas.Str.{IsUtf8-past_char, encodes-chars}
-use Rattle.std.proofs.lemmas.Bool.Decides.{Decides-eqb}
-use Rattle.clap.specs.Lexer.{name_and_value}
-use Rattle.clap.specs.Walk.{Held, Row, Rule, Text, Waiting, Walk, after_flag, after_step, arg_by_id, arg_by_long, idle, long_met, option, positional, settled, walked}
-use Rattle.clap.specs.Kinds.{Kinds, or_else}
-use Rattle.clap.specs.Faults.{flags_fault, long_fault, step_fault, use_fault}
-use Rattle.command_words.specs.ClapWords.{is_fault}
-use Rattle.command_words.specs.WordParts.{Part, Chosen, flag_value, followed, is_option, is_equals, option_in, option_parts, option_word, options, joined_value, options_end}
+use Rattle.command_words.proofs.Common.{codes, find, slice_get, unwrap_or, AllByRecursion, list_any, before_first, after_first, position_or_len, encode_utf8, bytes_eq, chars, encode_utf8_all, IsUtf8, IsUtf8-past_char, encodes-chars, Decides-eqb, name_and_value, Held, Row, Rule, Text, Waiting, Walk, after_flag, after_step, arg_by_id, arg_by_long, idle, long_met, option, positional, settled, walked, Kinds, or_else, flags_fault, long_fault, step_fault, use_fault, is_fault, Part, Chosen, flag_value, followed, is_option, is_equals, option_in, option_parts, option_word, options, joined_value, options_end}
 use Rattle.command_words.proofs.WordSpelling.{of_found}
 use Rattle.command_words.proofs.ClapTurns.{at, due, next, rule_for, rules, settling, shape, turn, values_for, with_use}
 

@@ -1,20 +1,8 @@
 -- What clap finds of the words after a command is what their parts give.
-use Rattle.std.proofs.Common.{Global, ◌≡◌, ◌∙◌, ◌||◌, List, [], ◌∷◌, ◌++◌, map, Option, Some, None, is_some, Bool, true, false, cond, refl, ap, ap₂, subst, option_map}
+use Rattle.command_words.proofs.Common.{Global, ◌≡◌, ◌∙◌, ◌||◌, List, [], ◌∷◌, ◌++◌, map, Option, Some, None, is_some, Bool, true, false, cond, refl, ap, ap₂, subst, option_map, AllByRecursion, bytes_eq, IsUtf8, string_bytes, IsUtf8-string_bytes, bytes_eq-Decides, DefaultValue, matches_of, or_else, defaults_fault, fault_of, given_default_fault, walk_fault, app, clap_rows, is_fault, Given, files_in, given_by, given_of_parts, repeats_none, said_by, value_by, value_in, Part, options, parts_from, parts_of}
 use Rattle.std.specs.Prelude.{codes, fold, find, option_and_then, slice_get, unwrap_or, String}
-use Rattle.std.specs.List.{AllByRecursion}
-use Rattle.std.specs.Str.{bytes_eq, IsUtf8}
-use Rattle.std.specs.String.{string_bytes}
-use Rattle.std.proofs.lemmas.Str.{IsUtf8-string_bytes}
-use Rattle.std.proofs.lemmas.Slice.Eq.{bytes_eq-Decides}
 use Rattle.clap.specs.Walk.{Row, Text, all_of, first_of, has_row, nothing_held, reading_by, settled, idle, with_default, with_values}
-use Rattle.clap.specs.declared.parser.matches.ValueSource.TheVariants.{DefaultValue}
-use Rattle.clap.specs.Simple.{matches_of}
-use Rattle.clap.specs.Kinds.{or_else}
-use Rattle.clap.specs.Faults.{defaults_fault, fault_of, given_default_fault, walk_fault}
 use Rattle.clap.proofs.FaultLemmas.{leaf_fault}
-use Rattle.command_words.specs.ClapWords.{app, clap_rows, is_fault}
-use Rattle.command_words.specs.Forms.{Given, files_in, given_by, given_of_parts, repeats_none, said_by, value_by, value_in}
-use Rattle.command_words.specs.WordParts.{Part, options, parts_from, parts_of}
 use Rattle.command_words.proofs.ClapTurns.{at, file, rule_for, rules, settling, shape}
 use Rattle.command_words.proofs.ClapOptions.{IsOption, are_options, ended, finish, or_else_nil}
 use Rattle.command_words.proofs.ClapStates.{Says, fine_start, listed, row_of_one}

@@ -1,11 +1,7 @@
 -- What clap's rows hold after one more value.
-use Rattle.std.proofs.Common.{◌≡◌, ◌∙◌, ◌||◌, List, [], ◌∷◌, ◌++◌, Option, Some, is_some, Bool, true, false, cond, refl, ap, true≢false, option_map}
-use Rattle.std.specs.Prelude.{find, unwrap_or}
-use Rattle.std.specs.Str.{bytes_eq}
-use Rattle.std.proofs.lemmas.Slice.Eq.{bytes_eq-Decides}
+use Rattle.command_words.proofs.Common.{◌≡◌, ◌∙◌, ◌||◌, List, [], ◌∷◌, ◌++◌, Option, Some, is_some, Bool, true, false, cond, refl, ap, true≢false, option_map, find, unwrap_or, bytes_eq, bytes_eq-Decides, Reading}
 use Rattle.clap.specs.Walk.{Row, Text, all_of, has_row, more_values, with_values, without}
 use Rattle.clap.specs.declared.parser.matches.ValueSource.{ValueSource}
-use Rattle.clap.specs.declared.builder.value_parser.Reading.{Reading}
 
 -- the values of the row that is found
 abbrev values : Option Row → Option (List Text)

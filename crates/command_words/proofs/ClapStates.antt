@@ -1,16 +1,6 @@
 -- What is held between two words, and what it says of the words so far.
-use Rattle.std.proofs.Common.{◌≡◌, ◌∙◌, List, [], ◌∷◌, ◌++◌, Option, Some, None, is_some, Bool, true, false, cond, refl, ap, sym, subst, option_map, append-nil}
-use Rattle.std.specs.Prelude.{codes, unwrap_or}
-use Rattle.std.specs.Option.{option_map_or}
-use Rattle.std.specs.Str.{bytes_eq}
-use Rattle.std.proofs.lemmas.Slice.Eq.{bytes_eq-Decides}
+use Rattle.command_words.proofs.Common.{◌≡◌, ◌∙◌, List, [], ◌∷◌, ◌++◌, Option, Some, None, is_some, Bool, true, false, cond, refl, ap, sym, subst, option_map, append-nil, codes, unwrap_or, option_map_or, bytes_eq, bytes_eq-Decides, Reading, CommandLine, use_fault, is_fault, files_in, value_in, Part, File, Chosen}
 use Rattle.clap.specs.Walk.{Held, Row, Text, all_of, has_row, nothing_held, reading_by, settled, used, used_by_id, with_values, without}
-use Rattle.clap.specs.declared.builder.value_parser.Reading.{Reading}
-use Rattle.clap.specs.declared.parser.matches.ValueSource.TheVariants.{CommandLine}
-use Rattle.clap.specs.Faults.{use_fault}
-use Rattle.command_words.specs.ClapWords.{is_fault}
-use Rattle.command_words.specs.Forms.{files_in, value_in}
-use Rattle.command_words.specs.WordParts.{Part, File, Chosen}
 use Rattle.command_words.proofs.ClapRows.{added_here, added_elsewhere, has_row_is, without_none}
 use Rattle.command_words.proofs.ClapTurns.{file, rule_for, rules, settling, with_due, with_file, with_use, with_value}
 use Rattle.command_words.proofs.ClapOptions.{Fails, IsOption, said, using}

@@ -1,16 +1,7 @@
 -- What clap makes of one word, at the command that it is given here: computed with what is held kept abstract.
-use Rattle.std.proofs.Common.{◌≡◌, ◌&&◌, ◌==◌, ℕ, List, [], ◌∷◌, map, Option, Some, None, Bool, true, false, cond, refl, ap, ◌∙◌}
-use Rattle.std.specs.Prelude.{codes, ⊤}
-use Rattle.std.specs.Str.{bytes_eq}
-use Rattle.clap.specs.Lexer.{long_of, short_of}
+use Rattle.command_words.proofs.Common.{◌≡◌, ◌&&◌, ◌==◌, ℕ, List, [], ◌∷◌, map, Option, Some, None, Bool, true, false, cond, refl, ap, ◌∙◌, codes, ⊤, bytes_eq, long_of, short_of, Shape, built, Kinds, settle_fault, turn_fault, app, file_rule, flag_rule, option_rule, flag_value, is_option, options, bytes_eq-Decides}
 use Rattle.clap.specs.Walk.{Held, Rule, Text, Waiting, Walk, arg_by_id, idle, option, option_word, positional, pushed, reacted, settled, walked}
-use Rattle.clap.specs.Simple.{Shape, built}
-use Rattle.clap.specs.Kinds.{Kinds}
-use Rattle.clap.specs.Faults.{settle_fault, turn_fault}
 use Rattle.clap.specs.declared.builder.value_parser.ValueParser.TheVariants as vp
-use Rattle.command_words.specs.ClapWords.{app, file_rule, flag_rule, option_rule}
-use Rattle.command_words.specs.WordParts.{flag_value, is_option, options}
-use Rattle.std.proofs.lemmas.Slice.Eq.{bytes_eq-Decides}
 
 -- what building makes of an argument with values: one a use
 abbrev filled_with : Rule → Option ℕ → Rule
@@ -34,11 +25,6 @@ rules = file ∷ map rule_for options
 
 abbrev pub shape : Shape
 shape = record (built app).top { rules = rules }
-
-built_is : built app ≡ record { top = shape; subs = [] }
-built_is = refl
-
--- ---- where clap stands between two words
 
 abbrev pub at : Held → Waiting → Walk
 at h waiting = record { held = h; waiting = waiting; position = 1; is_trailing = false; stopped = None }

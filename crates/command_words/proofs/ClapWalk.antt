@@ -1,14 +1,5 @@
 -- What clap makes of all words is what their parts say.
-use Rattle.std.proofs.Common.{◌≡◌, ◌∙◌, List, [], ◌∷◌, ◌++◌, map, Option, Some, None, is_some, Bool, true, false, cond, refl, ap, sym, subst, append_assoc, append-nil}
-use Rattle.std.specs.Prelude.{fold, ⊤}
-use Rattle.std.specs.List.{AllByRecursion}
-use Rattle.std.specs.Str.{bytes_eq, IsUtf8}
-use Rattle.std.proofs.lemmas.Slice.Eq.{bytes_eq-Decides}
-use Rattle.clap.specs.Walk.{Held, Text, Waiting, Walk, idle, option, positional, settled}
-use Rattle.clap.specs.Kinds.{Kinds, or_else}
-use Rattle.clap.specs.Faults.{walk_fault}
-use Rattle.command_words.specs.Forms.{repeats, repeats_none, value_in}
-use Rattle.command_words.specs.WordParts.{Part, File, Chosen, followed, is_option, options_end, parts_from}
+use Rattle.command_words.proofs.Common.{◌≡◌, ◌∙◌, List, [], ◌∷◌, ◌++◌, map, Option, Some, None, is_some, Bool, true, false, cond, refl, ap, sym, subst, append_assoc, append-nil, fold, ⊤, AllByRecursion, bytes_eq, IsUtf8, bytes_eq-Decides, Held, Text, Waiting, Walk, idle, option, positional, settled, Kinds, or_else, walk_fault, repeats, repeats_none, value_in, Part, File, Chosen, followed, is_option, options_end, parts_from}
 use Rattle.command_words.proofs.ClapTurns.{IsReady, at, due, end_next, end_turn, file_next, file_turn, next, past_end, past_next, past_turn, rules, settling, shape, turn, value_next, value_turn, with_due, with_file, with_use, with_value}
 use Rattle.command_words.proofs.ClapOptions.{Fails, IsOption, IsUse, Kind, apart, fails_first, fails_then, kind_of_option, option_fails, parts_by, said, unknown, using, whole}
 use Rattle.command_words.proofs.ClapStates.{IsFine, Says, due_fails, fine_file, fine_use, fine_value, first_value, second_value, settle_value}

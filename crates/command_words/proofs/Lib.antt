@@ -1,3 +1,4 @@
+mod Common
 mod ClapLaws
 mod ClapOptions
 mod ClapReads

@@ -1,22 +1,12 @@
 -- The number that is found of a text is the one that spells it, and a list of limits keeps what its rules say.
-use Rattle.std.proofs.Common.{◌≡◌, ◌∙◌, ℕ, ◌+◌, ◌<◌, ◌≤◌, ◌^◌, ℤ, pos, List, [], ◌∷◌, ◌++◌, length, Option, Some, None, Result, Ok, Err, Bool, true, false, cond, ◌&&◌, eqb, ltb, refl, sym, ap, ap₂, true≢false, arith, option_map, nat_le, subst, T}
-use Rattle.std.specs.Prelude.{int_le, unsigned_abs, IfOk, IfSome}
-use Rattle.std.specs.List.{AllByRecursion}
-use Rattle.std.specs.Option.{option_and_then}
-use Rattle.std.specs.Str.{all_ascii_digits}
-use Rattle.std.proofs.lemmas.Bool.{and_parts, eqb-true, leb-true, lt-ltb, ltb-true}
+use Rattle.command_words.proofs.Common.{◌≡◌, ◌∙◌, ℕ, ◌+◌, ◌<◌, ◌≤◌, ◌^◌, ℤ, pos, List, [], ◌∷◌, ◌++◌, length, Option, Some, None, Result, Ok, Err, Bool, true, false, cond, ◌&&◌, eqb, ltb, refl, sym, ap, ap₂, true≢false, arith, option_map, nat_le, subst, T, int_le, unsigned_abs, IfOk, IfSome, AllByRecursion, option_and_then, all_ascii_digits, and_parts, eqb-true, leb-true, lt-ltb, ltb-true, Reads, billionths, decimal_of, is_rounded, with_sign, IsNumeral, NumbersAreFound, after_fraction, after_sign, has_digit, is_numeral, number_in, number_with, power_after, power_in, sign_in_front, fraction_in_front, AreLimits, IsLimit, all_of, between_commas, exact_limit, few_ascending, is_ascending, limit_of, limits_of, most_limits}
 use Rattle.exact_num.specs.Range.{InRange}
 use Rattle.scaled_decimals.specs.declared.reading.DecFault.{DecFault}
 use Rattle.scaled_decimals.specs.declared.reading.DecFault.TheVariants.{NotNumber, TooLarge}
-use Rattle.scaled_decimals.specs.DecimalReading.{Reads, billionths, decimal_of, is_rounded, with_sign}
-use Rattle.scaled_decimals.specs.Digits.{IsNumeral}
 use Rattle.scaled_decimals.specs.NumberText.{Exponent, IsExponent, NumberText, Spells, exponent_bytes, fraction_digits, is_minus, mark, sign_bytes}
 use Rattle.scaled_decimals.proofs.TextLemmas as texts
 use Rattle.scaled_decimals.proofs.DecimalLemmas.{IfOk-bound}
-use Rattle.command_words.specs.LimitNumbers.{NumbersAreFound, after_fraction, after_sign, has_digit, is_numeral, number_in, number_with, power_after, power_in, sign_in_front}
-use Rattle.command_words.specs.LimitNumbers.{fraction_in_front}
 use Rattle.scaled_decimals.specs.PartsReading.{after_digits, digits_in_front}
-use Rattle.command_words.specs.LimitLists.{AreLimits, IsLimit, all_of, between_commas, exact_limit, few_ascending, is_ascending, limit_of, limits_of, most_limits}
 
 -- ---- powers of ten
 

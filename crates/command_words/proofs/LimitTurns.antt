@@ -1,7 +1,5 @@
 -- One turn of the loop over the texts of limits.
-use Rattle.std.proofs.Common.{◌≡◌, ◌∙◌, List, [], ◌∷◌, ◌++◌, Option, Some, None, refl, sym, ap, option_map, append_assoc, append-nil}
-use Rattle.std.specs.Option.{option_and_then}
-use Rattle.command_words.specs.LimitLists.{all_of}
+use Rattle.command_words.proofs.Common.{◌≡◌, ◌∙◌, List, [], ◌∷◌, ◌++◌, Option, Some, None, refl, sym, ap, option_map, append_assoc, append-nil, option_and_then, all_of}
 
 -- ---- what each gives, after some
 

@@ -1,15 +1,6 @@
 -- The words ask for written factors of 6 or 9 decimal places, and for made files of sizes from 3 to 122.
-use Rattle.std.proofs.Common.{◌≡◌, ℕ, ℤ, inl, inr, List, [], ◌∷◌, Option, Some, None, Result, Ok, Err, Bool, true, false, cond, ◌&&◌, is_some, not, refl, ap, subst, nat_le, length, ◌≤◌, option_map}
-use Rattle.std.specs.Prelude.{codes, slice_get, unwrap_or, IfSome, ⊤}
-use Rattle.std.specs.Char.{is_ascii_digit}
-use Rattle.std.specs.List.{list_all}
-use Rattle.std.specs.Option.{option_and_then}
-use Rattle.std.specs.Str.{bytes_eq}
-use Rattle.std.specs.Str.Parse.{digits_value}
-use Rattle.std.proofs.lemmas.Bool.{leb-true}
+use Rattle.command_words.proofs.Common.{◌≡◌, ℕ, ℤ, inl, inr, List, [], ◌∷◌, Option, Some, None, Result, Ok, Err, Bool, true, false, cond, ◌&&◌, is_some, not, refl, ap, subst, nat_le, length, ◌≤◌, option_map, codes, slice_get, unwrap_or, IfSome, ⊤, is_ascii_digit, list_all, option_and_then, bytes_eq, digits_value, leb-true, WordFault, BadCommand, BadNumber, BadShow, GapAlone, Given, asks_for_rounded, form_in, given_by, is_command_in, AreLimits, limits_of, Request, Check, CheckProof, Mps, Solve, SolveFrom, Explain, Curve, Span, Make, Table, Page, Warn, Compare, Reduce, asked, command_by, command_with, made, numbers_of, or_fault, text_of, word_at, parts_of}
 use Rattle.discount_factors.specs.Factors.{IsPlaces}
-use Rattle.command_words.specs.declared.fault.WordFault.{WordFault}
-use Rattle.command_words.specs.declared.fault.WordFault.TheVariants.{BadCommand, BadNumber, BadShow, GapAlone}
 use Rattle.command_words.specs.declared.forms.FormName.{FormName}
 use Rattle.command_words.specs.declared.forms.FormName.TheVariants as forms
 use Rattle.command_words.specs.declared.values.Numbers.{Numbers}
@@ -17,12 +8,8 @@ use Rattle.command_words.specs.declared.command.CompareShow.{CompareShow}
 use Rattle.command_words.specs.declared.command.MakeShow.{MakeShow}
 use Rattle.command_words.specs.declared.command.SolveShow.{SolveShow}
 use Rattle.command_words.specs.declared.command.SolveMethod.{SolveMethod}
-use Rattle.command_words.specs.Forms.{Given, asks_for_rounded, form_in, given_by, is_command_in}
 use Rattle.command_words.specs.Forms as table
-use Rattle.command_words.specs.LimitLists.{AreLimits, limits_of}
 use Rattle.command_words.proofs.LimitLaws.{are_limits}
-use Rattle.command_words.specs.Words.{Request, Check, CheckProof, Mps, Solve, SolveFrom, Explain, Curve, Span, Make, Table, Page, Warn, Compare, Reduce, asked, command_by, command_with, made, numbers_of, or_fault, text_of, word_at}
-use Rattle.command_words.specs.WordParts.{parts_of}
 use Rattle.command_words.specs.WordValues.{compare_show_of, make_show_of, method_of, number_or, places_of, size_of, solve_show_of}
 
 -- the size of a made file

@@ -1,20 +1,10 @@
 -- What the words of the command line mean, computed on lines of words with blanks between.
-use Rattle.std.proofs.Common.{◌≡◌, ◌==◌, ℕ, List, [], ◌∷◌, map, pos, refl}
+use Rattle.command_words.proofs.Common.{◌≡◌, ◌==◌, ℕ, List, [], ◌∷◌, map, pos, refl, slice_split, denominator, numerator, number_of, Bare, Minus, WordFault, NoCommand, BadCommand, BadForm, BadNumber, BadShow, GapAlone, all_of, limit_of, limits_of, number_in, Request, asked, names_of, Mps, Check, CheckProof, Solve, SolveFrom, Explain, Curve, Span, Make, Table, Page, Warn, Compare, Reduce, Chosen, Spells, Name, Apart, Joined, Flag, parts_of}
 use Rattle.std.specs.Prelude.{codes, Result, Ok, Err, Some, None, true, false}
-use Rattle.std.specs.List.{slice_split}
-use Rattle.scaled_decimals.specs.DecimalReading.{denominator, numerator}
-use Rattle.scaled_decimals.specs.Digits.{number_of}
-use Rattle.scaled_decimals.specs.NumberText.{Bare, Minus}
-use Rattle.command_words.specs.declared.fault.WordFault.{WordFault}
-use Rattle.command_words.specs.declared.fault.WordFault.TheVariants.{NoCommand, BadCommand, BadForm, BadNumber, BadShow, GapAlone}
 use Rattle.command_words.specs.declared.command.SolveShow.TheVariants.{Report, Plan, Multipliers, Proof, Line}
 use Rattle.command_words.specs.declared.command.CompareShow.TheVariants as compare
 use Rattle.command_words.specs.declared.command.MakeShow.TheVariants.{File, Summary}
 use Rattle.command_words.specs.declared.command.SolveMethod.TheVariants.{Exact, Rounded}
-use Rattle.command_words.specs.LimitLists.{all_of, limit_of, limits_of}
-use Rattle.command_words.specs.LimitNumbers.{number_in}
-use Rattle.command_words.specs.Words.{Request, asked, names_of, Mps, Check, CheckProof, Solve, SolveFrom, Explain, Curve, Span, Make, Table, Page, Warn, Compare, Reduce}
-use Rattle.command_words.specs.WordParts.{Chosen, Spells, Name, Apart, Joined, Flag, parts_of}
 use Rattle.command_words.specs.WordParts as parts
 
 -- the words between blanks: two blanks have an empty word between them

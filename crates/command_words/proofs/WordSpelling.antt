@@ -1,13 +1,6 @@
 -- The words after a command have the parts that are spelled so, and no others.
-use Rattle.std.proofs.Common.{rules, ◌≡◌, ◌∙◌, ◌+◌, ◌&&◌, ◌||◌, ◌==◌, arith, ℕ, suc, List, [], ◌∷◌, ◌++◌, take, drop, map, Option, Some, None, Bool, true, false, cond, refl, ap, sym, subst, true≢false, append_assoc, option_map}
+use Rattle.command_words.proofs.Common.{rules, ◌≡◌, ◌∙◌, ◌+◌, ◌&&◌, ◌||◌, ◌==◌, arith, ℕ, suc, List, [], ◌∷◌, ◌++◌, take, drop, map, Option, Some, None, Bool, true, false, cond, refl, ap, sym, subst, true≢false, append_assoc, option_map, AllByRecursion, list_all, list_any, flat_map, before_first, after_first, position_or_len, option_map_or, bytes_eq, and_parts, not-true, Decides-eqb, bytes_eq-Decides, HasSpelledParts, Part, File, Chosen, Spelling, Name, Apart, Joined, Flag, Spells, end_files, end_words, flag_value, followed, is_equals, is_option, is_spelling, joined_value, names_option, option_in, option_parts, option_word, options, options_end, part_of, parts_from, parts_of, words_of}
 use Rattle.std.specs.Prelude.{codes, find, not, ⊤}
-use Rattle.std.specs.List.{AllByRecursion, list_all, list_any, flat_map, before_first, after_first, position_or_len}
-use Rattle.std.specs.Option.{option_map_or}
-use Rattle.std.specs.Str.{bytes_eq}
-use Rattle.std.proofs.lemmas.Bool.{and_parts, not-true}
-use Rattle.std.proofs.lemmas.Bool.Decides.{Decides-eqb}
-use Rattle.std.proofs.lemmas.Slice.Eq.{bytes_eq-Decides}
-use Rattle.command_words.specs.WordParts.{HasSpelledParts, Part, File, Chosen, Spelling, Name, Apart, Joined, Flag, Spells, end_files, end_words, flag_value, followed, is_equals, is_option, is_spelling, joined_value, names_option, option_in, option_parts, option_word, options, options_end, part_of, parts_from, parts_of, words_of}
 
 -- ---- an option and its value in one word
 

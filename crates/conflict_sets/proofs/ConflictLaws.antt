@@ -1,14 +1,6 @@
 -- Where every inequality of the list was tried, what is left of it is a conflict.
-use Rattle.row_problem.proofs.Common.{◌≡◌, ◌≢◌, ℕ, ℤ, pos, ◌*ℤ◌, Bool, true, false, not, ◌&&◌, List, [], ◌∷◌, inl, inr, map, refl, sym, ap, ap₂, ◌∙◌, subst, append-nil, arith, Contains, Option, unsigned_abs, eqb-true, ints, is_eq, Rational, value_of, Frac, *ℤ_cancel, nonzero_of_pos, zero-*ℤ, Row, RowName, Var, is_zero, keys_of, row_name_cmp, value_in, valued, IsOver, both_passed, Contains-from_Has, Has, Has-filter, Has-from_Contains, Has-map, filter_parts, map_parts, IsProblem, AdmitsNone, AreMultipliersOver, Refutes, HasVariablesOf, Refutes-none, is_unequal, by_test, row_name_cmp_total, Values, Multipliers}
-use Rattle.conflict_sets.specs.Conflicts.{AreNeeded, IsConflict, IsWholePlan, inequalities, is_member, is_other_member}
-use Rattle.conflict_sets.specs.Searches.{IsSearched, names_known, needed_name}
-use Rattle.conflict_sets.specs.Pieces.{is_taken}
-use Rattle.conflict_sets.specs.Trials.{rows_with}
-use Rattle.conflict_sets.specs.Walks.{Needed, is_listed, is_other, member_of, plan_of, still_needed}
-use Rattle.conflict_sets.specs.declared.conflict.Conflict.{Conflict}
+use Rattle.conflict_sets.proofs.Common.{◌≡◌, ◌≢◌, ℕ, ℤ, pos, ◌*ℤ◌, Bool, true, false, not, ◌&&◌, List, [], ◌∷◌, inl, inr, map, refl, sym, ap, ap₂, ◌∙◌, subst, append-nil, arith, Contains, Option, unsigned_abs, eqb-true, ints, is_eq, Rational, value_of, Frac, *ℤ_cancel, nonzero_of_pos, zero-*ℤ, Row, RowName, Var, is_zero, keys_of, row_name_cmp, value_in, valued, IsOver, both_passed, Contains-from_Has, Has, Has-filter, Has-from_Contains, Has-map, filter_parts, map_parts, IsProblem, AdmitsNone, AreMultipliersOver, Refutes, HasVariablesOf, Refutes-none, is_unequal, by_test, row_name_cmp_total, Values, Multipliers, AreNeeded, IsConflict, IsWholePlan, inequalities, is_member, is_other_member, IsSearched, names_known, needed_name, is_taken, rows_with, Needed, is_listed, is_other, member_of, plan_of, still_needed, Conflict, filter-ascends, filter-names, name_itself, same_name}
 use Rattle.conflict_sets.proofs.PartLaws.{fewer-met, part-refuted, part-variables}
-use Rattle.row_problem.proofs.SameLists.{filter-ascends, filter-names}
-use Rattle.variable_elimination.proofs.RowNameLaws.{name_itself, same_name}
 use Rattle.conflict_sets.proofs.RowLists.{inequality-named}
 
 -- ---- members

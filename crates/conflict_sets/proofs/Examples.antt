@@ -1,14 +1,9 @@
 -- The definitions, computed: the list that multipliers make, what is left of it, and its ends.
-use Rattle.row_problem.proofs.Common.{◌≡◌, ◌≤◌, ℕ, pos, negsuc, Bool, true, false, List, [], ◌∷◌, refl, arith, subst, ◌<ℤ◌, Option, ints, whole, Frac, Row, RowName, Var, row_name_cmp, AreOverSome, CAA3, CAA4, EBA11, TCC1, CostRow, Values, Multipliers}
-use Rattle.simplex_core.specs.declared.stops.Stop.TheVariants.{Budget, Trial}
+use Rattle.conflict_sets.proofs.Common.{◌≡◌, ◌≤◌, ℕ, pos, negsuc, Bool, true, false, List, [], ◌∷◌, refl, arith, subst, ◌<ℤ◌, Option, ints, whole, Frac, Row, RowName, Var, row_name_cmp, AreOverSome, CAA3, CAA4, EBA11, TCC1, CostRow, Values, Multipliers, Budget, Trial, AreRefuted, is_member, is_other_member, is_outside, HasPlan, IsPivotDue, IsWide, StopsTrial, IsConflicting, IsFirstFail, IsStopped, IsTrialFail, Stops, every, found, is_listed, is_other}
 use Rattle.simplex_core.specs.declared.stops.TrialStop.TheVariants as trials
 use Rattle.certified_answers.specs.declared.answers.NoAnswer.TheVariants as stops
 use Rattle.conflict_sets.specs.declared.conflict.ExplainFail.TheVariants.{Memory, Stopped}
-use Rattle.conflict_sets.specs.Conflicts.{AreRefuted, is_member, is_other_member}
-use Rattle.conflict_sets.specs.Pieces.{is_outside}
 use Rattle.conflict_sets.specs.RoundedStops.{EndsSo, IsStopOfSome}
-use Rattle.conflict_sets.specs.Trials.{HasPlan, IsPivotDue, IsWide, StopsTrial}
-use Rattle.conflict_sets.specs.Walks.{IsConflicting, IsFirstFail, IsStopped, IsTrialFail, Stops, every, found, is_listed, is_other}
 
 -- the row of this equation; all subscripts are 0
 abbrev named : ℕ → RowName

@@ -1,18 +1,12 @@
 -- What the simplex found of a trial makes the checker say yes.
-use Rattle.row_problem.proofs.Common.{◌≡◌, ℕ, Bool, true, false, List, map, refl, sym, ap, ap₂, ◌∙◌, Option, value_of, Frac, Row, RowName, Var, ascends, keys_of, row_name_cmp, var_cmp, Reduced, program_of, AreOverSome, Outcome, solved, names_of, Definition, defined, definitions_of, lifted, right_side, lifted-others, plan_right, carried_plan, IsPosedProblem, multiplier_steps, named_multipliers, BecomesPlan, IsFoundPlan, IsFoundRefutation, Values, Multipliers}
-use Rattle.row_problem.specs.declared.problem.Problem.{Problem}
+use Rattle.conflict_sets.proofs.Common.{◌≡◌, ℕ, Bool, true, false, List, map, refl, sym, ap, ap₂, ◌∙◌, Option, value_of, Frac, Row, RowName, Var, ascends, keys_of, row_name_cmp, var_cmp, Reduced, program_of, AreOverSome, Outcome, solved, names_of, Definition, defined, definitions_of, lifted, right_side, lifted-others, plan_right, carried_plan, IsPosedProblem, multiplier_steps, named_multipliers, BecomesPlan, IsFoundPlan, IsFoundRefutation, Values, Multipliers, Problem, IsHalt, MeetAll, RefuteAll, becomes_plan, becomes_refutation, IsTriedOf, StopsTrial, carried_trial, rows_with, trial_end, tried_multipliers, tried_steps, IsOverSome}
 use Rattle.simplex_core.specs.declared.ends.Halt.{Halt}
 use Rattle.simplex_core.specs.declared.ends.Halt.TheVariants as halts
-use Rattle.simplex_core.specs.Outcomes.{IsHalt, MeetAll, RefuteAll}
 use Rattle.variable_elimination.specs.Certified.{CarriesSum}
-use Rattle.row_problem.proofs.CarriedWords.{becomes_plan, becomes_refutation}
-use Rattle.conflict_sets.specs.Pieces.{IsTriedOf}
-use Rattle.conflict_sets.specs.Trials.{StopsTrial, carried_trial, rows_with, trial_end, tried_multipliers, tried_steps}
 use Rattle.exact_solver.specs.MethodEnds.{stop_at}
 use Rattle.conflict_sets.proofs.PlannedLaws.{carries-tried}
 use Rattle.conflict_sets.proofs.TriedLaws.{names-tried, part-tried, program-tried, scales-tried}
 use Rattle.row_problem.proofs.FoundWords.{found-plan, found-refutation}
-use Rattle.row_problem.proofs.OverLaws.{IsOverSome}
 
 module _ (listed : RowName → Bool) (problem : Problem) (of : IsPosedProblem problem) (made : Reduced) (tried : IsTriedOf listed problem.reduced.now made) where
   abbrev rows : List Row

@@ -1,3 +1,4 @@
+mod Common
 pub mod SelectedLaws
 pub mod LoopLaws
 pub mod CopiedLaws

@@ -1,8 +1,5 @@
 -- Rows that are copied and names that are listed, one after another.
-use Rattle.row_problem.proofs.Common.{◌≡◌, ℕ, zero, suc, ◌+◌, ◌<◌, ◌≤◌, Bool, List, [], ◌∷◌, ◌++◌, length, get_or, drop, map, refl, sym, ap, ap₂, ◌∙◌, append_assoc, append-nil, arith, if◌then◌else◌, ◌&&◌, at_drop_all, drop_more, Row, RowName, is_unequal, RowContents, contents_of, by_test, Multipliers}
-use Rattle.conflict_sets.specs.Pieces.{is_taken, selected, tests_of}
-use Rattle.conflict_sets.specs.Trials.{rows_with}
-use Rattle.conflict_sets.specs.Walks.{is_listed, listed_names}
+use Rattle.conflict_sets.proofs.Common.{◌≡◌, ℕ, zero, suc, ◌+◌, ◌<◌, ◌≤◌, Bool, List, [], ◌∷◌, ◌++◌, length, get_or, drop, map, refl, sym, ap, ap₂, ◌∙◌, append_assoc, append-nil, arith, if◌then◌else◌, ◌&&◌, at_drop_all, drop_more, Row, RowName, is_unequal, RowContents, contents_of, by_test, Multipliers, is_taken, selected, tests_of, rows_with, is_listed, listed_names}
 
 -- an element, and the rest after it
 pub next-of : {A : Type 0} (xs : List A) (i : ℕ) (x : A) → i < length xs → x ≡ get_or xs i x → drop i xs ≡ x ∷ drop (i + 1) xs

@@ -1,7 +1,5 @@
 -- Names with the plans at their places.
-use Rattle.row_problem.proofs.Common.{◌≡◌, List, [], ◌∷◌, ◌++◌, length, map, refl, ap, arith, RowName, Values, Multipliers}
-use Rattle.conflict_sets.specs.Searches.{member_named, paired}
-use Rattle.conflict_sets.specs.Walks.{Needed, member_of, plan_of}
+use Rattle.conflict_sets.proofs.Common.{◌≡◌, List, [], ◌∷◌, ◌++◌, length, map, refl, ap, arith, RowName, Values, Multipliers, member_named, paired, Needed, member_of, plan_of}
 
 abbrev Plans : Type 0
 Plans = List Values

@@ -1,9 +1,7 @@
 -- What plans and multipliers of some rows are to fewer of them.
 use Rattle.row_problem.proofs.Common.{◌≡◌, ℕ, ℤ, pos, ◌+ℤ◌, ◌*ℤ◌, Bool, true, false, List, [], ◌∷◌, inl, inr, filter, refl, sym, ap, ◌∙◌, subst, arith, flat_map, ints, zero-*ℤ, Row, RowName, Var, kind_is_free, variables_of, number_at, Contains-from_Has, Has, Has-append_left, Has-append_right, Has-from_Contains, append_parts, AreSigned, AreWithin, IsWithin, Refutes, no_cost, AllStand, MeetsAll, HasVariablesOf, column_sum, weighted, is_unequal, by_test}
 use Rattle.std.proofs.lemmas.List.Concat.{flat_map-cons}
-use Rattle.conflict_sets.specs.Pieces.{is_taken}
-use Rattle.conflict_sets.specs.Trials.{rows_with}
-use Rattle.conflict_sets.specs.Walks.{every}
+use Rattle.conflict_sets.proofs.Common.{is_taken, rows_with, every}
 use Rattle.conflict_sets.proofs.RowLists.{Takes, taken-too}
 
 -- ---- plans

@@ -1,10 +1,7 @@
 -- Values that meet the linear program of a trial become a plan that meets the rows of the trial.
-use Rattle.row_problem.proofs.Common.{◌≡◌, ◌≢◌, ℕ, ℤ, pos, Bool, true, false, not, ◌||◌, List, [], ◌∷◌, inl, inr, length, map, refl, sym, ap, ap₂, ◌∙◌, arith, if◌then◌else◌, Option, Some, None, ints, value_of, Frac, Row, RowName, Sense, Equal, Most, Var, RowHolds, Definition, definitions_of, others_of, rows_of, defined, AreTriangular, lifted, right_side, inequality_of, ArePosed, AvoidAll, AreMet, contents_of, AreReductions, lifted-others, lifted_meet, plan_met, reduced_hold, reduced_says, is_unequal, by_test, Values}
-use Rattle.row_core.specs.declared.Sense.TheVariants.{Least}
+use Rattle.conflict_sets.proofs.Common.{◌≡◌, ◌≢◌, ℕ, ℤ, pos, Bool, true, false, not, ◌||◌, List, [], ◌∷◌, inl, inr, length, map, refl, sym, ap, ap₂, ◌∙◌, arith, if◌then◌else◌, Option, Some, None, ints, value_of, Frac, Row, RowName, Sense, Equal, Most, Var, RowHolds, Definition, definitions_of, others_of, rows_of, defined, AreTriangular, lifted, right_side, inequality_of, ArePosed, AvoidAll, AreMet, contents_of, AreReductions, lifted-others, lifted_meet, plan_met, reduced_hold, reduced_says, is_unequal, by_test, Values, Least, is_taken, selected, tests_of, rows_with}
 use Rattle.variable_elimination.specs.Lifts.{CarriesPlan}
 use Rattle.variable_elimination.proofs.LiftedLaws.{AllHold, defined_holds, empty_holds}
-use Rattle.conflict_sets.specs.Pieces.{is_taken, selected, tests_of}
-use Rattle.conflict_sets.specs.Trials.{rows_with}
 use Rattle.conflict_sets.proofs.TriedLaws.{reduction-copied}
 
 either-hold : (row : Row) (rows : List Row) (t : Bool) (q : ℕ) (x : Var → ℤ) → RowHolds row q x → AllHold rows q x → AllHold (if t then (row ∷ rows) else rows) q x

@@ -1,7 +1,5 @@
 -- Rows of a trial, among those of another.
-use Rattle.row_problem.proofs.Common.{◌≡◌, Bool, true, List, [], ◌∷◌, ◌++◌, filter, refl, is_lt, both_true, Row, RowName, ascends, row_name_cmp, ascends-skip, ascends-tail, both_passed, row_name_cmp_total, Has, Has-filter, Has-map, filter_parts, map_parts, is_unequal, by_test}
-use Rattle.conflict_sets.specs.Conflicts.{inequalities}
-use Rattle.conflict_sets.specs.Pieces.{is_taken}
+use Rattle.conflict_sets.proofs.Common.{◌≡◌, Bool, true, List, [], ◌∷◌, ◌++◌, filter, refl, is_lt, both_true, Row, RowName, ascends, row_name_cmp, ascends-skip, ascends-tail, both_passed, row_name_cmp_total, Has, Has-filter, Has-map, filter_parts, map_parts, is_unequal, by_test, inequalities, is_taken}
 
 -- ---- ascending names
 

@@ -1,15 +1,6 @@
 -- What is known goes on from trial to trial.
-use Rattle.row_problem.proofs.Common.{◌≡◌, Bool, true, false, not, ◌&&◌, List, [], ◌∷◌, ◌++◌, inl, inr, map, filter, ap, ap₂, ◌∙◌, subst, append_assoc, Contains, Option, is_eq, map-append, Row, RowName, Var, keys_of, row_name_cmp, both_passed, Contains-from_Has, Has, Has-filter, Has-from_Contains, Has-map, append_parts, filter_parts, map_parts, IsProblem, is_unequal, IsPlan, IsRefutation, plan_cost, refl, row_name_cmp_total, Values, Multipliers}
-use Rattle.conflict_sets.specs.Conflicts.{IsWholePlan, inequalities}
-use Rattle.conflict_sets.specs.Pieces.{AreWithin, IsFinding}
-use Rattle.conflict_sets.specs.declared.trial.Finding.{Finding}
-use Rattle.conflict_sets.specs.declared.trial.Finding.TheVariants.{Plan, Refutation}
-use Rattle.conflict_sets.specs.Searches.{IsSearched, list_after, names_known, needed_after, needed_name}
-use Rattle.conflict_sets.specs.Trials.{rows_with}
-use Rattle.conflict_sets.specs.Walks.{Needed, is_listed, is_other, listed_names}
+use Rattle.conflict_sets.proofs.Common.{◌≡◌, Bool, true, false, not, ◌&&◌, List, [], ◌∷◌, ◌++◌, inl, inr, map, filter, ap, ap₂, ◌∙◌, subst, append_assoc, Contains, Option, is_eq, map-append, Row, RowName, Var, keys_of, row_name_cmp, both_passed, Contains-from_Has, Has, Has-filter, Has-from_Contains, Has-map, append_parts, filter_parts, map_parts, IsProblem, is_unequal, IsPlan, IsRefutation, plan_cost, refl, row_name_cmp_total, Values, Multipliers, IsWholePlan, inequalities, AreWithin, IsFinding, Finding, Plan, Refutation, IsSearched, list_after, names_known, needed_after, needed_name, rows_with, Needed, is_listed, is_other, listed_names, filter-ascends, name_itself}
 use Rattle.conflict_sets.proofs.PartLaws.{fewer-met}
-use Rattle.row_problem.proofs.SameLists.{filter-ascends}
-use Rattle.variable_elimination.proofs.RowNameLaws.{name_itself}
 use Rattle.conflict_sets.proofs.RowLists.{inequality-named, inequality-row, without-one}
 
 has-more : (xs : List RowName) (c : RowName) (ws : List RowName) (u : RowName) → Has (xs ++ ws) u → Has (xs ++ c ∷ ws) u

@@ -1,6 +1,5 @@
 -- What a list of tests selects.
-use Rattle.row_problem.proofs.Common.{◌≡◌, ◌≤◌, suc, Bool, true, false, List, [], ◌∷◌, length, map, filter, refl, ap, arith, by_test}
-use Rattle.conflict_sets.specs.Pieces.{selected}
+use Rattle.conflict_sets.proofs.Common.{◌≡◌, ◌≤◌, suc, Bool, true, false, List, [], ◌∷◌, length, map, filter, refl, ap, arith, by_test, selected}
 
 -- a filter selects by its tests
 pub map-filter : {A B : Type 0} (p : A → Bool) (f : A → B) (xs : List A) → map f (filter p xs) ≡ selected (map p xs) (map f xs)

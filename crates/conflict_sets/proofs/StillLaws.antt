@@ -1,16 +1,9 @@
 -- An inequality that was needed stays on the list: without it the others have a plan, so that no later refutation does without it.
-use Rattle.row_problem.proofs.Common.{◌≡◌, ℕ, ℤ, pos, Bool, true, false, not, ◌&&◌, List, [], ◌∷◌, inl, inr, filter, refl, ap, ap₂, ◌∙◌, length, map, sym, Option, Some, is_eq, Row, RowName, Var, row_name_cmp, valued, Contains-from_Has, Has, IsProblem, AreMultipliersOver, Refutes, MeetsAll, Refutes-none, is_unequal, by_test, Multipliers}
-use Rattle.conflict_sets.specs.Pieces.{is_taken}
-use Rattle.conflict_sets.specs.Conflicts.{IsConflict}
-use Rattle.conflict_sets.specs.Searches.{IsSearched, SearchIs, all_needed, member_named}
-use Rattle.conflict_sets.specs.Trials.{rows_with}
-use Rattle.conflict_sets.specs.Walks.{IsConflicting, Needed, explanation_seen, found, is_listed, is_other, member_of, plan_of, still_needed}
-use Rattle.conflict_sets.specs.declared.conflict.Conflict.{Conflict}
+use Rattle.conflict_sets.proofs.Common.{◌≡◌, ℕ, ℤ, pos, Bool, true, false, not, ◌&&◌, List, [], ◌∷◌, inl, inr, filter, refl, ap, ap₂, ◌∙◌, length, map, sym, Option, Some, is_eq, Row, RowName, Var, row_name_cmp, valued, Contains-from_Has, Has, IsProblem, AreMultipliersOver, Refutes, MeetsAll, Refutes-none, is_unequal, by_test, Multipliers, is_taken, IsConflict, IsSearched, SearchIs, all_needed, member_named, rows_with, IsConflicting, Needed, explanation_seen, found, is_listed, is_other, member_of, plan_of, still_needed, Conflict, same_name}
 use Rattle.conflict_sets.specs.declared.searching.Search.{Search}
 use Rattle.conflict_sets.proofs.ConflictLaws.{conflict-found, zero-over}
 use Rattle.conflict_sets.proofs.PairLaws.{paired-members, paired-plans}
 use Rattle.conflict_sets.proofs.PartLaws.{fewer-met, part-refuted, part-variables}
-use Rattle.variable_elimination.proofs.RowNameLaws.{same_name}
 
 filter-all : {A : Type 0} (p : A → Bool) (xs : List A) → ((x : A) → Has xs x → p x ≡ true) → filter p xs ≡ xs
 filter-all p [] h = refl

@@ -1,10 +1,6 @@
 -- Conflicts, trial by trial: which inequality each trial leaves out, and what its multipliers strike off the list.
-use Rattle.row_problem.proofs.Common.{◌≡◌, ℕ, ℤ, pos, negsuc, List, [], ◌∷◌, refl, Vec, Option, Some, None, difference_formed, product_formed, quotient_formed, sum_formed, gcd_of, gcd_within, all_fit, in_range, divided, lowest, minus, order_of, plus, times, whole, first_wide, Row, RowName, Equal, Most, Var, CAA4, EBA11, TCC1, TDC2, NEW_CAPACITY, RATE_OF_ACTIVITY, TOTAL_DISCOUNTED_COST, answer, answer_of, run, made_row, carried_plan, plan_steps, Values}
-use Rattle.row_core.specs.declared.Sense.TheVariants.{Least}
-use Rattle.simplex_core.specs.declared.stops.Stop.TheVariants.{Budget, Trial}
+use Rattle.conflict_sets.proofs.Common.{◌≡◌, ℕ, ℤ, pos, negsuc, List, [], ◌∷◌, refl, Vec, Option, Some, None, difference_formed, product_formed, quotient_formed, sum_formed, gcd_of, gcd_within, all_fit, in_range, divided, lowest, minus, order_of, plus, times, whole, first_wide, Row, RowName, Equal, Most, Var, CAA4, EBA11, TCC1, TDC2, NEW_CAPACITY, RATE_OF_ACTIVITY, TOTAL_DISCOUNTED_COST, answer, answer_of, run, made_row, carried_plan, plan_steps, Values, Least, Budget, Trial, HasPlan, trial_end, trial_program, tried_multipliers, tried_steps, IsConflicting, IsStopped, every, explained, walk}
 use Rattle.simplex_core.specs.declared.stops.TrialStop.TheVariants as trials
-use Rattle.conflict_sets.specs.Trials.{HasPlan, trial_end, trial_program, tried_multipliers, tried_steps}
-use Rattle.conflict_sets.specs.Walks.{IsConflicting, IsStopped, every, explained, walk}
 
 -- the variable, and the row, of this number at the first members
 abbrev of_kind : ℕ → Var

@@ -1,9 +1,5 @@
 -- The linear program of a trial is that of the definitions, is ready to be solved, and its rows are some of those that are left.
-use Rattle.row_problem.proofs.Common.{◌≡◌, ◌+◌, ◌<◌, ◌≤◌, ◌^◌, Bool, true, false, List, [], ◌∷◌, inl, inr, length, map, filter, refl, sym, ap, ap₂, ◌∙◌, arith, Option, ints, length-map, all_fit, Rational, value_of, Frac, Row, RowName, Var, Reduced, definitions_of, defined, others_of, rows_of, ReducedRow, is_column, width_of, Inequality, LinearProgram, inequality_of, program_of, ArePosed, IsPosed, IsReady, RowsAreAmong, AreAmongReductions, IsPartOf, AvoidAll, RowContents, contents_of, AreReductions, IsReduction, names_of, inequality_in, name_left, program_left, rows_left, scale_left, IsPosedProblem}
-use Rattle.row_problem.specs.declared.problem.Problem.{Problem}
-use Rattle.row_problem.proofs.CarriedWords.{as_many}
-use Rattle.conflict_sets.specs.Pieces.{IsTriedOf, selected, tests_of}
-use Rattle.conflict_sets.specs.Trials.{rows_tried, trial_program}
+use Rattle.conflict_sets.proofs.Common.{◌≡◌, ◌+◌, ◌<◌, ◌≤◌, ◌^◌, Bool, true, false, List, [], ◌∷◌, inl, inr, length, map, filter, refl, sym, ap, ap₂, ◌∙◌, arith, Option, ints, length-map, all_fit, Rational, value_of, Frac, Row, RowName, Var, Reduced, definitions_of, defined, others_of, rows_of, ReducedRow, is_column, width_of, Inequality, LinearProgram, inequality_of, program_of, ArePosed, IsPosed, IsReady, RowsAreAmong, AreAmongReductions, IsPartOf, AvoidAll, RowContents, contents_of, AreReductions, IsReduction, names_of, inequality_in, name_left, program_left, rows_left, scale_left, IsPosedProblem, Problem, as_many, IsTriedOf, selected, tests_of, rows_tried, trial_program}
 use Rattle.std.proofs.lemmas.Simd.{map-map}
 use Rattle.conflict_sets.proofs.SelectedLaws.{length-alike, length-selected, map-filter, map-selected, selected-none}
 

@@ -1,12 +1,6 @@
 -- The walk, one inequality after another.
-use Rattle.row_problem.proofs.Common.{◌≡◌, ℕ, ◌+◌, true, false, List, [], ◌∷◌, refl, sym, Option, Row, RowName, Var, NoAnswer, Multipliers}
+use Rattle.conflict_sets.proofs.Common.{◌≡◌, ℕ, ◌+◌, true, false, List, [], ◌∷◌, refl, sym, Option, Row, RowName, Var, NoAnswer, Multipliers, end_found, list_after, needed_after, Finding, Plan, Refutation, StopsTrial, TrialEnd, trial_end, Explanation, IsFirstFail, IsTrialFail, Needed, Stops, every, explained, found, is_listed, is_other, walk}
 use Rattle.certified_answers.specs.declared.answers.NoAnswer.TheVariants as stops
-use Rattle.conflict_sets.specs.Pieces.{end_found}
-use Rattle.conflict_sets.specs.Searches.{list_after, needed_after}
-use Rattle.conflict_sets.specs.declared.trial.Finding.{Finding}
-use Rattle.conflict_sets.specs.declared.trial.Finding.TheVariants.{Plan, Refutation}
-use Rattle.conflict_sets.specs.Trials.{StopsTrial, TrialEnd, trial_end}
-use Rattle.conflict_sets.specs.Walks.{Explanation, IsFirstFail, IsTrialFail, Needed, Stops, every, explained, found, is_listed, is_other, walk}
 use Rattle.conflict_sets.specs.declared.conflict.ExplainFail.{ExplainFail}
 
 module _ (rows : List Row) (defs : List (Option Var)) (vars : List Var) (n k : ℕ) (name : RowName) (left : List RowName) (multipliers : Multipliers) (needed : List Needed) where

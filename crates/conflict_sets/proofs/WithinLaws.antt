@@ -1,12 +1,5 @@
 -- Of the inequalities those that were tried alone have a multiplier other than 0.
-use Rattle.row_problem.proofs.Common.{◌≡◌, Bool, true, false, List, [], ◌∷◌, inl, inr, map, filter, refl, sym, ap, ◌∙◌, subst, Option, Some, None, is_eq, Rational, Row, RowName, Equal, Var, ascends, keys_of, row_name_cmp, ascends-tail, Has, Has-from_Contains, Has-map, filter_parts, map_parts, names_of, IsProblem, definitions_of, AreTriangular, ReducedRow, scaled_multipliers, name_left, rows_left, scale_left, is_unequal, by_test, row_name_cmp_total, Multipliers}
-use Rattle.row_problem.proofs.CompletePlans.{definition_names, multiplied-has, scaled-has}
-use Rattle.conflict_sets.specs.Conflicts.{inequalities}
-use Rattle.conflict_sets.specs.Pieces.{AreWithin}
-use Rattle.conflict_sets.specs.Trials.{rows_tried, tried_multipliers}
-use Rattle.conflict_sets.specs.Walks.{is_listed}
-use Rattle.row_problem.proofs.SameLists.{not-again}
-use Rattle.variable_elimination.proofs.RowNameLaws.{same_name}
+use Rattle.conflict_sets.proofs.Common.{◌≡◌, Bool, true, false, List, [], ◌∷◌, inl, inr, map, filter, refl, sym, ap, ◌∙◌, subst, Option, Some, None, is_eq, Rational, Row, RowName, Equal, Var, ascends, keys_of, row_name_cmp, ascends-tail, Has, Has-from_Contains, Has-map, filter_parts, map_parts, names_of, IsProblem, definitions_of, AreTriangular, ReducedRow, scaled_multipliers, name_left, rows_left, scale_left, is_unequal, by_test, row_name_cmp_total, Multipliers, definition_names, multiplied-has, scaled-has, inequalities, AreWithin, rows_tried, tried_multipliers, is_listed, not-again, same_name}
 use Rattle.conflict_sets.proofs.RowLists.{inequality-row}
 
 -- a value other than 0 is that of a key

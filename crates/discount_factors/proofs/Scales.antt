@@ -18,9 +18,5 @@ step_above places is = at_places (λ p. 10 ^ 9 ≤ 10 ^ 18 / unit_of p) (omega a
 pub half_year_step_above : (places : ℕ) → IsPlaces places → 10 ^ 21 ≤ 10 ^ 30 / unit_of places
 half_year_step_above places is = at_places (λ p. 10 ^ 21 ≤ 10 ^ 30 / unit_of p) (omega arith) (omega arith) places is
 
--- ---- the unit
-pub unit_above : (places : ℕ) → IsPlaces places → 10 ^ 6 ≤ unit_of places
-unit_above places is = at_places (λ p. 10 ^ 6 ≤ unit_of p) (omega arith) (omega arith) places is
-
 pub unit_most : (places : ℕ) → IsPlaces places → unit_of places ≤ 10 ^ 9
 unit_most places is = at_places (λ p. unit_of p ≤ 10 ^ 9) (omega arith) (omega arith) places is

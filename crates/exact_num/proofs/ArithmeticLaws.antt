@@ -2,7 +2,7 @@
 use Rattle.exact_num.proofs.Common.{◌≡◌, ◌≢◌, ℤ, pos, neg_ℤ, ◌+ℤ◌, ◌*ℤ◌, sym, refl, ap, ap₂, ◌∙◌, Rational, IsLowest, lowest, whole, negated, plus, minus, times, divided}
 use Rattle.exact_num.proofs.Integers.{*ℤ_nonzero}
 use Rattle.exact_num.proofs.RationalLaws.{bottom_nonzero, lowest_same, lowest_is, lowest-cross, lowest-IsLowest, lowest-mul, lowest-self, whole-IsLowest, negated-IsLowest, plus-IsLowest, plus-cross, times-IsLowest, times-cross, minus-is_plus, divided-cross, divided-IsLowest}
-use Rattle.exact_num.proofs.Ring.{ring, products, *ℤ_comm, *ℤ_assoc, *ℤ-one, *ℤ-zero, zero-*ℤ, +ℤ-zero, +ℤ_comm, neg_ℤ-*ℤ, neg_ℤ-+ℤ, +ℤ-neg_ℤ}
+use Rattle.exact_num.proofs.Ring.{ring, products, *ℤ_comm, *ℤ_assoc, *ℤ-one, zero-*ℤ, +ℤ-zero, +ℤ_comm, neg_ℤ-*ℤ, neg_ℤ-+ℤ, +ℤ-neg_ℤ}
 
 -- ---- sums and products of values that are known as quotients n/d and m/e
 sum_cross : (t b n d u c m e : ℤ) → t *ℤ d ≡ n *ℤ b → u *ℤ e ≡ m *ℤ c → (t *ℤ c +ℤ u *ℤ b) *ℤ (d *ℤ e) ≡ (n *ℤ e +ℤ m *ℤ d) *ℤ (b *ℤ c)
@@ -61,9 +61,6 @@ times_assoc x y z p q r =
 pub plus_left_comm : (x y z : Rational) → IsLowest x → IsLowest y → IsLowest z → plus x (plus y z) ≡ plus y (plus x z)
 plus_left_comm x y z p q r = sym (plus_assoc x y z p q r) ∙ ap (λ t. plus t z) (plus_comm x y) ∙ plus_assoc y x z q p r
 
-pub times_left_comm : (x y z : Rational) → IsLowest x → IsLowest y → IsLowest z → times x (times y z) ≡ times y (times x z)
-times_left_comm x y z p q r = sym (times_assoc x y z p q r) ∙ ap (λ t. times t z) (times_comm x y) ∙ times_assoc y x z q p r
-
 -- a product with a sum
 pub times-plus : (x y z : Rational) → IsLowest x → IsLowest y → IsLowest z → times x (plus y z) ≡ plus (times x y) (times x z)
 times-plus x y z p q r =
@@ -82,18 +79,9 @@ pub plus-zero : (x : Rational) → IsLowest x → plus x (whole (pos 0)) ≡ x
 unfolding plus
 plus-zero x h = ap₂ lowest (ap₂ ◌+ℤ◌ (*ℤ-one x.top) (zero-*ℤ x.bottom) ∙ +ℤ-zero x.top) (*ℤ-one x.bottom) ∙ lowest-self x h
 
-pub times-one : (x : Rational) → IsLowest x → times x (whole (pos 1)) ≡ x
-unfolding times
-times-one x h = ap₂ lowest (*ℤ-one x.top) (*ℤ-one x.bottom) ∙ lowest-self x h
-
 -- the value of 0/d
 pub lowest-zero : (d : ℤ) → d ≢ pos 0 → lowest (pos 0) d ≡ whole (pos 0)
 lowest-zero d h = sym (lowest_is (pos 0) d (whole (pos 0)) h (whole-IsLowest (pos 0)) (zero-*ℤ d))
-
-pub times-zero : (x : Rational) → IsLowest x → times x (whole (pos 0)) ≡ whole (pos 0)
-unfolding times
-times-zero x h =
-    ap₂ lowest (*ℤ-zero x.top) (*ℤ-one x.bottom) ∙ lowest-zero x.bottom (bottom_nonzero x h)
 
 pub plus-negated : (x : Rational) → IsLowest x → plus x (negated x) ≡ whole (pos 0)
 unfolding plus
@@ -141,12 +129,3 @@ divided-times x y p q n =
     times_of (divided x y) y (x.top *ℤ y.bottom) (x.bottom *ℤ y.top) y.top y.bottom (divided-IsLowest x y p q n) q (*ℤ_nonzero x.bottom y.top xb n) yb (divided-cross x y p n) refl
     ∙ ap₂ lowest (*ℤ_assoc x.top y.bottom y.top) (simp products)
     ∙ lowest-mul x.top x.bottom both xb (*ℤ_nonzero y.bottom y.top yb n) ∙ lowest-self x p
-
--- ---- whole numbers
-pub plus-whole : (a b : ℤ) → plus (whole a) (whole b) ≡ whole (a +ℤ b)
-unfolding plus
-plus-whole a b = ap₂ lowest (ap₂ ◌+ℤ◌ (*ℤ-one a) (*ℤ-one b)) refl ∙ lowest-self (whole (a +ℤ b)) (whole-IsLowest (a +ℤ b))
-
-pub times-whole : (a b : ℤ) → times (whole a) (whole b) ≡ whole (a *ℤ b)
-unfolding times
-times-whole a b = lowest-self (whole (a *ℤ b)) (whole-IsLowest (a *ℤ b))

@@ -48,9 +48,6 @@ zero-gcd_of a = gcd_of_comm 0 a ∙ gcd_of-zero a
 pub gcd_of-one : (a : ℕ) → gcd_of a 1 ≡ 1
 gcd_of-one a = eq-one_of_dvd-one (gcd_of-dvd_right a 1)
 
-pub gcd_of_at_one : (a b : ℕ) → b ≡ 1 → gcd_of a b ≡ 1
-gcd_of_at_one a b e = ap (gcd_of a) e ∙ gcd_of-one a
-
 pub one-gcd_of : (a : ℕ) → gcd_of 1 a ≡ 1
 one-gcd_of a = eq-one_of_dvd-one (gcd_of-dvd_left 1 a)
 

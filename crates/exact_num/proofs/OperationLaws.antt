@@ -64,11 +64,6 @@ part_pos a b h =
     let P : ℤ → Type 0 = λ z. pos 0 <ℤ z in
     factor_pos (int_div b (common a b)) (common a b) (common_pos a b h) (subst P (sym (part_mul a b)) h)
 
-part_pos_left : (a b : ℤ) → pos 0 <ℤ a → pos 0 <ℤ b → pos 0 <ℤ int_div a (common a b)
-part_pos_left a b h k =
-    let P : ℤ → Type 0 = λ z. pos 0 <ℤ z in
-    factor_pos (int_div a (common a b)) (common a b) (common_pos a b k) (subst P (sym (part_mul_left a b)) h)
-
 -- ---- a sum
 -- each number that a sum forms
 abbrev pub sum_left : Rational → Rational → ℤ

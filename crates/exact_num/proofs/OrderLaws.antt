@@ -1,11 +1,10 @@
 -- The order of exact values: how whole parts and remainders decide it, and how it goes with sums and products.
-use Rattle.exact_num.proofs.Common.{◌≡◌, ◌≢◌, ℕ, zero, suc, ◌+◌, ◌-◌, ◌*◌, ◌/◌, ◌%◌, ◌<◌, ℤ, pos, negsuc, neg_ℤ, ◌+ℤ◌, ◌-ℤ◌, ◌*ℤ◌, sym, refl, ap, ap₂, ◌∙◌, subst, inl, inr, arith, unsigned_abs, ◌<ℤ◌, ◌≤ℤ◌, Less, Equal, Greater, nat_cmp, int_cmp, MatchOrdering, ordering_reverse, cases_order, nat_tests, ints, mul-lt-mul_of_pos_left, mul_comm, Rational, IsLowest, lowest, whole, plus, minus, times, order_of}
+use Rattle.exact_num.proofs.Common.{◌≡◌, ◌≢◌, ℕ, zero, suc, ◌+◌, ◌-◌, ◌*◌, ◌/◌, ◌%◌, ◌<◌, ℤ, pos, negsuc, neg_ℤ, ◌+ℤ◌, ◌-ℤ◌, ◌*ℤ◌, sym, refl, ap, ap₂, ◌∙◌, subst, inl, inr, arith, unsigned_abs, ◌<ℤ◌, ◌≤ℤ◌, Less, Equal, Greater, nat_cmp, int_cmp, MatchOrdering, cases_order, nat_tests, ints, mul-lt-mul_of_pos_left, mul_comm, Rational, IsLowest, lowest, whole, plus, minus, times, order_of}
 use Rattle.std.specs.declared.cmp.Ordering.{Ordering}
-use Rattle.std.proofs.lemmas.Cmp.{int_cmp_total}
 use Rattle.std.specs.Cmp.{int_cmp_is, int_ranks}
 use Rattle.exact_num.proofs.ArithmeticLaws.{lowest-zero, minus-plus_both}
-use Rattle.exact_num.proofs.Integers.{*ℤ_pos, *ℤ-<ℤ, <ℤ_cancel, nonzero_of_pos}
-use Rattle.exact_num.proofs.RationalLaws.{bottom_nonzero, lowest-cross, lowest-IsLowest, lowest-self, lowest_unique, plus-IsLowest, times-IsLowest, times-cross}
+use Rattle.exact_num.proofs.Integers.{*ℤ_pos, *ℤ-<ℤ, nonzero_of_pos}
+use Rattle.exact_num.proofs.RationalLaws.{bottom_nonzero, lowest-cross, lowest-IsLowest, lowest-self, plus-IsLowest, times-IsLowest, times-cross}
 use Rattle.exact_num.proofs.Ring.{products, *ℤ-one, zero-*ℤ}
 
 -- ---- naturals
@@ -184,17 +183,9 @@ lowest-sign n d h =
     let low : IsLowest x = lowest-IsLowest n d apart in
     sym (int_cmp-mul x.top (pos 0) d h) ∙ ap₂ int_cmp (lowest-cross n d apart) (zero-*ℤ d ∙ sym (zero-*ℤ x.bottom)) ∙ int_cmp-mul n (pos 0) x.bottom low.positive
 
-pub plus-sign : (x y : Rational) → IsLowest x → IsLowest y → int_cmp (plus x y).top (pos 0) ≡ int_cmp (x.top *ℤ y.bottom +ℤ y.top *ℤ x.bottom) (pos 0)
-unfolding plus
-plus-sign x y p q = lowest-sign (x.top *ℤ y.bottom +ℤ y.top *ℤ x.bottom) (x.bottom *ℤ y.bottom) (*ℤ_pos x.bottom y.bottom p.positive q.positive)
-
 pub minus-sign : (x y : Rational) → IsLowest x → IsLowest y → int_cmp (minus x y).top (pos 0) ≡ int_cmp (x.top *ℤ y.bottom -ℤ y.top *ℤ x.bottom) (pos 0)
 unfolding minus
 minus-sign x y p q = lowest-sign (x.top *ℤ y.bottom -ℤ y.top *ℤ x.bottom) (x.bottom *ℤ y.bottom) (*ℤ_pos x.bottom y.bottom p.positive q.positive)
-
-pub times-sign : (x y : Rational) → IsLowest x → IsLowest y → int_cmp (times x y).top (pos 0) ≡ int_cmp (x.top *ℤ y.top) (pos 0)
-unfolding times
-times-sign x y p q = lowest-sign (x.top *ℤ y.top) (x.bottom *ℤ y.bottom) (*ℤ_pos x.bottom y.bottom p.positive q.positive)
 
 -- x stands to y as x - y to 0
 difference_zero : (a b : ℤ) → int_cmp (a -ℤ b) (pos 0) ≡ int_cmp a b
@@ -211,38 +202,6 @@ order_of-minus x y p q = sym (minus-sign x y p q ∙ difference_zero (x.top *ℤ
 pub order_of-self : (x : Rational) → order_of x x ≡ Equal
 unfolding order_of
 order_of-self x = int_cmp-equal (x.top *ℤ x.bottom) (x.top *ℤ x.bottom) refl
-
-ranked-equal : (a b : ℤ) (o : Ordering) → o ≡ Equal → MatchOrdering o (a <ℤ b) (a ≡ b) (b <ℤ a) → a ≡ b
-ranked-equal a b Less e h = cc
-ranked-equal a b Equal e h = h
-ranked-equal a b Greater e h = cc
-
-ranked-less : (a b : ℤ) (o : Ordering) → o ≡ Less → MatchOrdering o (a <ℤ b) (a ≡ b) (b <ℤ a) → a <ℤ b
-ranked-less a b Less e h = h
-ranked-less a b Equal e h = cc
-ranked-less a b Greater e h = cc
-
-pub order_of-equal : (x y : Rational) → IsLowest x → IsLowest y → order_of x y ≡ Equal → x ≡ y
-unfolding order_of
-order_of-equal x y p q e =
-    lowest_unique x y p q (ranked-equal (x.top *ℤ y.bottom) (y.top *ℤ x.bottom) (int_cmp (x.top *ℤ y.bottom) (y.top *ℤ x.bottom)) e (int_ranks (x.top *ℤ y.bottom) (y.top *ℤ x.bottom)))
-
-pub order_of-turned : (x y : Rational) → order_of x y ≡ ordering_reverse (order_of y x)
-unfolding order_of
-order_of-turned x y = int_cmp_total.antisymm (x.top *ℤ y.bottom) (y.top *ℤ x.bottom)
-
--- below what is below
-pub order_of_trans : (x y z : Rational) → IsLowest x → IsLowest y → IsLowest z → order_of x y ≡ Less → order_of y z ≡ Less → order_of x z ≡ Less
-unfolding order_of
-order_of_trans x y z p q r h k =
-    let first = ranked-less (x.top *ℤ y.bottom) (y.top *ℤ x.bottom) (int_cmp (x.top *ℤ y.bottom) (y.top *ℤ x.bottom)) h (int_ranks (x.top *ℤ y.bottom) (y.top *ℤ x.bottom)) in
-    let second = ranked-less (y.top *ℤ z.bottom) (z.top *ℤ y.bottom) (int_cmp (y.top *ℤ z.bottom) (z.top *ℤ y.bottom)) k (int_ranks (y.top *ℤ z.bottom) (z.top *ℤ y.bottom)) in
-    let left : ((x.top *ℤ y.bottom) *ℤ z.bottom) <ℤ ((y.top *ℤ x.bottom) *ℤ z.bottom) = *ℤ-<ℤ (x.top *ℤ y.bottom) (y.top *ℤ x.bottom) z.bottom r.positive first in
-    let right : ((y.top *ℤ z.bottom) *ℤ x.bottom) <ℤ ((z.top *ℤ y.bottom) *ℤ x.bottom) = *ℤ-<ℤ (y.top *ℤ z.bottom) (z.top *ℤ y.bottom) x.bottom p.positive second in
-    let e : (x.top *ℤ y.bottom) *ℤ z.bottom ≡ (x.top *ℤ z.bottom) *ℤ y.bottom = simp products in
-    let f : (y.top *ℤ x.bottom) *ℤ z.bottom ≡ (y.top *ℤ z.bottom) *ℤ x.bottom = simp products in
-    let g : (z.top *ℤ y.bottom) *ℤ x.bottom ≡ (z.top *ℤ x.bottom) *ℤ y.bottom = simp products in
-    int_cmp-less (x.top *ℤ z.bottom) (z.top *ℤ x.bottom) (<ℤ_cancel (x.top *ℤ z.bottom) (z.top *ℤ x.bottom) y.bottom q.positive (omega (arith, ints, e, f, g)))
 
 scaled : (t b c m d e n f : ℤ) → t *ℤ (d *ℤ f) ≡ (m *ℤ n) *ℤ b → (t *ℤ c) *ℤ ((d *ℤ f) *ℤ (e *ℤ f)) ≡ (m *ℤ e) *ℤ ((n *ℤ f) *ℤ (b *ℤ c))
 scaled t b c m d e n f h =

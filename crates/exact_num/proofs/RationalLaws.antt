@@ -135,13 +135,6 @@ pub minus-is_plus : (x y : Rational) → minus x y ≡ plus x (negated y)
 unfolding minus plus
 minus-is_plus x y = ap (λ t. lowest (x.top *ℤ y.bottom +ℤ t) (x.bottom *ℤ y.bottom)) (sym (neg_ℤ-*ℤ y.top x.bottom))
 
-pub minus-IsLowest : (x y : Rational) → IsLowest x → IsLowest y → IsLowest (minus x y)
-minus-IsLowest x y p q = rw (minus-is_plus x y) (plus-IsLowest x (negated y) p (negated-IsLowest y q))
-
-pub minus-cross : (x y : Rational) → IsLowest x → IsLowest y → (minus x y).top *ℤ (x.bottom *ℤ y.bottom) ≡ (x.top *ℤ y.bottom -ℤ y.top *ℤ x.bottom) *ℤ (minus x y).bottom
-unfolding minus
-minus-cross x y p q = lowest-cross (x.top *ℤ y.bottom -ℤ y.top *ℤ x.bottom) (x.bottom *ℤ y.bottom) (*ℤ_nonzero x.bottom y.bottom (bottom_nonzero x p) (bottom_nonzero y q))
-
 -- a quotient is a product with the reciprocal
 pub divided-is_times : (x y : Rational) → IsLowest x → IsLowest y → y.top ≢ pos 0 → divided x y ≡ times x (reciprocal y)
 unfolding divided times

@@ -75,7 +75,3 @@ pub ruleset ring = (*ℤ-+ℤ, +ℤ-*ℤ, neg_ℤ-*ℤ, *ℤ-neg_ℤ, neg_ℤ-+�
 
 -- the same for products alone
 pub ruleset products = (*ℤ_assoc, *ℤ_comm, *ℤ_left_comm)
-
--- both sides of an equation come to one form
-sorted_difference : (a b c d e f : ℤ) → (a *ℤ (d *ℤ f) -ℤ (c *ℤ b) *ℤ f) *ℤ (b *ℤ e) ≡ ((f *ℤ a) *ℤ d -ℤ f *ℤ (c *ℤ b)) *ℤ (b *ℤ e) +ℤ e *ℤ pos 0
-sorted_difference a b c d e f = simp ring

@@ -1,24 +1,6 @@
 -- Entries divided one after another, and their greatest common divisor.
-use Rattle.std.proofs.Common.{◌≡◌, ◌≢◌, ℕ, zero, suc, ◌+◌, ◌<◌, ◌≤◌, ℤ, pos, ◌+ℤ◌, ◌*ℤ◌, neg_ℤ, Bool, true, false, List, [], ◌∷◌, ◌++◌, length, get_or, set, take, drop, add-one, arith, refl, sym, ap, ap₂, ◌∙◌, subst}
-use Rattle.std.specs.Prelude.{int_div, unsigned_abs, ◌<ℤ◌, ◌==◌}
-use Rattle.std.proofs.lemmas.Int.{ints}
-use borrow.Author.Tests.{eqb-true}
-use Rattle.std.specs.Int.{◌∣◌}
-use Rattle.std.proofs.Math.Nat.{zero-div}
-use Rattle.exact_num.specs.Range.{InRange, all_fit}
-use Rattle.exact_num.specs.Formed.{common}
-use Rattle.exact_num.specs.Gcd.{gcd_of}
-use Rattle.exact_num.proofs.GcdLaws.{zero-gcd_of, gcd_of_pos_right}
-use Rattle.exact_num.proofs.Integers.{int_div-mul, unsigned_abs-int_div, unsigned_abs_pos}
-use Rattle.exact_num.proofs.RangeLaws.{InRange-le, InRange-neg_ℤ, in_range-yes}
+use Rattle.int_tableau.proofs.Common.{◌≡◌, ◌≢◌, ℕ, zero, suc, ◌+◌, ◌<◌, ◌≤◌, ℤ, pos, ◌+ℤ◌, ◌*ℤ◌, neg_ℤ, Bool, true, false, List, [], ◌∷◌, ◌++◌, length, get_or, set, take, drop, add-one, arith, refl, sym, ap, ap₂, ◌∙◌, subst, int_div, unsigned_abs, ◌<ℤ◌, ◌==◌, ints, eqb-true, ◌∣◌, zero-div, InRange, all_fit, common, gcd_of, zero-gcd_of, gcd_of_pos_right, int_div-mul, unsigned_abs-int_div, unsigned_abs_pos, InRange-le, InRange-neg_ℤ, in_range-yes, all_fit-cons, all_fit-nil, DividesAll, common_divisor, both_true, numbers_of, entries_divided, only, at, spread, entries_negated, IsSparse}
 use Rattle.exact_num.proofs.Ring.{zero-*ℤ}
-use Rattle.exact_num.proofs.StepLaws.{all_fit-cons, all_fit-nil}
-use Rattle.row_core.specs.Numbers.{DividesAll}
-use Rattle.row_core.specs.Written.{common_divisor}
-use Rattle.std.specs.Cmp.Derive.{both_true}
-use Rattle.row_core.specs.Numbers.{numbers_of}
-use Rattle.row_core.specs.Written.{entries_divided}
-use Rattle.int_tableau.specs.Entries.{only, at, spread, entries_negated, IsSparse}
 use Rattle.int_tableau.proofs.EntryLaws.{at-before, eq_no, eq_yes}
 
 abbrev pub no_entry : ℕ × ℤ

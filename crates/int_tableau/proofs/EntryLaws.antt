@@ -1,11 +1,6 @@
 -- Lists of entries in ascending order of columns.
-use Rattle.std.proofs.Common.{◌≡◌, ◌≢◌, ℕ, suc, ◌<◌, ◌≤◌, ℤ, pos, ◌+ℤ◌, Bool, true, false, List, [], ◌∷◌, ◌++◌, refl, ap, ap₂, ◌∙◌, arith, if◌then◌else◌, lit<}
-use Rattle.std.specs.Prelude.{◌==◌}
-use borrow.Author.Tests.{eqb-true}
-use Rattle.std.proofs.lemmas.Int.{ints}
+use Rattle.int_tableau.proofs.Common.{◌≡◌, ◌≢◌, ℕ, suc, ◌<◌, ◌≤◌, ℤ, pos, ◌+ℤ◌, Bool, true, false, List, [], ◌∷◌, ◌++◌, refl, ap, ap₂, ◌∙◌, arith, if◌then◌else◌, lit<, ◌==◌, eqb-true, ints, InRange, only, at, IsSparse, head_column, taken_number, taken_rest}
 use Rattle.std.proofs.lemmas.Bool.Decides.{nat_tests}
-use Rattle.exact_num.specs.Range.{InRange}
-use Rattle.int_tableau.specs.Entries.{only, at, IsSparse, head_column, taken_number, taken_rest}
 
 pub eq_no : (a b : ℕ) → a ≢ b → (a == b) ≡ false
 eq_no a b h = grind (arith, nat_tests)

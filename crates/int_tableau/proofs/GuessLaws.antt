@@ -1,13 +1,6 @@
 -- A quotient whose product with the divisor is the number.
-use Rattle.std.proofs.Common.{◌≡◌, ℤ, pos, sym, ap, ap₂, ◌∙◌, subst, arith, ◌*ℤ◌}
-use Rattle.std.specs.Int.{◌∣◌}
-use Rattle.std.specs.Prelude.{unsigned_abs, int_div, ◌<ℤ◌, ◌≤ℤ◌}
-use Rattle.std.proofs.Math.Nat.{dvd-mul_left}
-use Rattle.std.proofs.lemmas.Int.{ints, unsigned_abs-mul}
+use Rattle.int_tableau.proofs.Common.{◌≡◌, ℤ, pos, sym, ap, ap₂, ◌∙◌, subst, arith, ◌*ℤ◌, ◌∣◌, unsigned_abs, int_div, ◌<ℤ◌, ◌≤ℤ◌, dvd-mul_left, ints, unsigned_abs-mul, gcd_of, dvd-gcd_of, gcd_of-dvd_left, pos-unsigned_abs, int_div-mul, *ℤ_cancel, nonzero_of_pos}
 use Rattle.std.proofs.lemmas.Nat.Gcd.{dvd_antisymm, dvd_refl}
-use Rattle.exact_num.specs.Gcd.{gcd_of}
-use Rattle.exact_num.proofs.GcdLaws.{dvd-gcd_of, gcd_of-dvd_left}
-use Rattle.exact_num.proofs.Integers.{pos-unsigned_abs, int_div-mul, *ℤ_cancel, nonzero_of_pos}
 
 -- the divisor divides the number
 divides : (q d n : ℤ) → q *ℤ d ≡ n → unsigned_abs d ∣ unsigned_abs n

@@ -1,11 +1,5 @@
 -- Two lists of entries side by side, by the columns of their first entries.
-use Rattle.std.proofs.Common.{◌≡◌, ℕ, suc, ◌+◌, ◌<◌, ◌≤◌, ℤ, pos, true, List, [], ◌∷◌, length, get_or, drop, refl, sym, ap, ap₂, ◌∙◌, subst, arith, inl, inr, if◌then◌else◌}
-use Rattle.std.proofs.lemmas.Bool.{cases_lt}
-use Rattle.std.proofs.lemmas.List.{drop_more, at_drop_all}
-use Rattle.exact_num.specs.Range.{all_fit}
-use Rattle.written_method.specs.Lines.{less, less_formed}
-use Rattle.int_tableau.specs.Entries.{only, at, IsSparse, head_column, taken_number, taken_rest}
-use Rattle.int_tableau.specs.Pushes.{IsPushed}
+use Rattle.int_tableau.proofs.Common.{◌≡◌, ℕ, suc, ◌+◌, ◌<◌, ◌≤◌, ℤ, pos, true, List, [], ◌∷◌, length, get_or, drop, refl, sym, ap, ap₂, ◌∙◌, subst, arith, inl, inr, if◌then◌else◌, cases_lt, drop_more, at_drop_all, all_fit, less, less_formed, only, at, IsSparse, head_column, taken_number, taken_rest, IsPushed}
 use Rattle.int_tableau.proofs.DivisionLaws.{no_entry}
 use Rattle.int_tableau.proofs.EntryLaws.{eq_no, eq_yes, at-before, IsSparse-head, IsSparse-high, IsSparse-taken, head_column-from}
 use Rattle.int_tableau.proofs.MergeLaws.{IsMerge, IsMerge-column, IsMerge-value, IsMerge-fits, zeros_fit_at}

@@ -1,8 +1,5 @@
 -- The number in the last column is the line's last entry, and that in another column its entry there.
-use Rattle.std.proofs.Common.{◌≡◌, ◌<◌, ◌-◌, ℕ, ℤ, List, length, sym, ap, ◌∙◌, subst, arith}
-use Rattle.written_method.specs.Lines.{Line, entry_of}
-use Rattle.int_tableau.specs.Entries.{at}
-use Rattle.int_tableau.specs.LineView.{line_seen}
+use Rattle.int_tableau.proofs.Common.{◌≡◌, ◌<◌, ◌-◌, ℕ, ℤ, List, length, sym, ap, ◌∙◌, subst, arith, Line, entry_of, at, line_seen}
 use Rattle.int_tableau.proofs.LineLaws.{length-spread, entry_of-seen}
 
 pub last_column : (now : Line) (n : ℕ) (es : List (ℕ × ℤ)) (right own : ℤ) → line_seen n es right own ≡ now → 0 < length now.entries → at es (n - 1) ≡ entry_of now (length now.entries - 1)

@@ -1,3 +1,4 @@
+mod Common
 pub mod EntryLaws
 pub mod MergeLaws
 pub mod DivisionLaws

@@ -1,26 +1,11 @@
 -- A sparse line and the line that it means.
-use Rattle.std.proofs.Common.{◌≡◌, ◌≢◌, ℕ, zero, suc, ◌+◌, ◌<◌, ◌≤◌, ℤ, pos, ◌+ℤ◌, neg_ℤ, Bool, true, false, Some, None, inl, inr, List, [], ◌∷◌, ◌++◌, ◌&&◌, length, get_or, map, take, drop, ◌-◌, arith, refl, sym, ap, ap₂, ◌∙◌, subst, zero-add}
+use Rattle.int_tableau.proofs.Common.{◌≡◌, ◌≢◌, ℕ, zero, suc, ◌+◌, ◌<◌, ◌≤◌, ℤ, pos, ◌+ℤ◌, neg_ℤ, Bool, true, false, Some, None, inl, inr, List, [], ◌∷◌, ◌++◌, ◌&&◌, length, get_or, map, take, drop, ◌-◌, arith, refl, sym, ap, ap₂, ◌∙◌, subst, zero-add, ints, cases_lt, IsNextEntry, all_fit, all_fit-nil, all_fit-append, both_true, row_divisor, negated_line, without_last, gcd_of, unsigned_abs, entries_divided, only, at, spread, entries_negated, first_of, IsSparse, is_zero, nonzero-test, line_seen}
 use Rattle.std.specs.Prelude.{int_div, ◌==◌, if◌then◌else◌}
-use Rattle.std.proofs.lemmas.Int.{ints}
-use Rattle.std.proofs.lemmas.Bool.{cases_lt}
-use Rattle.int_tableau.specs.NextEntries.{IsNextEntry}
-use Rattle.exact_num.specs.Range.{all_fit}
-use Rattle.exact_num.proofs.StepLaws.{all_fit-nil, all_fit-append}
-use Rattle.std.specs.Cmp.Derive.{both_true}
-use Rattle.row_core.specs.Written.{row_divisor}
 use Rattle.written_method.specs.Lines.{Line, entry_of, numbers_of, less, less_formed, all_less, all_less_formed, line_less, line_over, lowest_line, factor_of, cleared, cleared_formed}
-use Rattle.written_method.specs.Tableaus.{negated_line, without_last}
-use Rattle.exact_num.specs.Gcd.{gcd_of}
-use Rattle.std.specs.Prelude.{unsigned_abs}
 use Rattle.row_core.specs.Numbers.{numbers_of as numbers_in}
-use Rattle.row_core.specs.Written.{entries_divided}
-use Rattle.int_tableau.specs.Entries.{only, at, spread, entries_negated, first_of, IsSparse}
-use Rattle.row_core.specs.Numbers.{is_zero}
-use Rattle.row_core.proofs.DivisionLaws.{nonzero-test}
 use Rattle.int_tableau.specs.declared.refused.Refused.{Refused}
 use Rattle.int_tableau.specs.declared.refused.Refused.TheVariants.{TooWide, Memory}
 use Rattle.int_tableau.specs.Stops.{IsRefusal, IsWideInSome}
-use Rattle.int_tableau.specs.LineView.{line_seen}
 use Rattle.int_tableau.proofs.EntryLaws.{eq_no, eq_yes, at-before, IsSparse-head}
 use Rattle.int_tableau.proofs.DivisionLaws.{no_entry, spread-same, common_divisor-spread, at-over, at-negated}
 

@@ -1,17 +1,5 @@
 -- The lists that loops make, one element after another.
-use Rattle.std.proofs.Common.{◌≡◌, ℕ, suc, ◌+◌, ◌-◌, ◌<◌, ◌≤◌, ℤ, pos, Bool, true, false, List, [], ◌∷◌, ◌++◌, length, get_or, map, drop, arith, sym, ap, ◌∙◌, append-nil, if◌then◌else◌}
-use Rattle.std.specs.Prelude.{int_lt, ◌||◌}
-use Rattle.std.proofs.lemmas.List.{append_assoc, at_drop_all}
-use Rattle.row_core.specs.declared.Row.{Row}
-use Rattle.row_core.specs.declared.Sense.{Sense}
-use Rattle.row_core.specs.declared.Var.{Var}
-use Rattle.row_core.specs.LookUps.{value_at}
-use Rattle.row_core.specs.Order.{var_cmp}
-use Rattle.row_core.proofs.WritingSteps.{drop_at}
-use Rattle.written_method.specs.FirstTableau.{any_negative, as_most, counted_from, row_lines, width_of}
-use Rattle.written_method.specs.Lines.{Line}
-use Rattle.written_method.specs.Programs.{inequality_of, is_split}
-use Rattle.int_tableau.specs.Starts.{after_columns, column_entries, in_columns_of, placed}
+use Rattle.int_tableau.proofs.Common.{◌≡◌, ℕ, suc, ◌+◌, ◌-◌, ◌<◌, ◌≤◌, ℤ, pos, Bool, true, false, List, [], ◌∷◌, ◌++◌, length, get_or, map, drop, arith, sym, ap, ◌∙◌, append-nil, if◌then◌else◌, int_lt, ◌||◌, append_assoc, at_drop_all, Row, Sense, Var, value_at, var_cmp, drop_at, any_negative, as_most, counted_from, row_lines, width_of, Line, inequality_of, is_split, after_columns, column_entries, in_columns_of, placed}
 
 -- what a read after the last variable gives
 abbrev pub no_variable : Var

@@ -1,11 +1,6 @@
 -- Marks of the columns of entries.
-use Rattle.std.proofs.Common.{◌≡◌, ℕ, zero, suc, ◌+◌, ◌<◌, ◌≤◌, ℤ, pos, ◌+ℤ◌, Bool, true, false, List, [], ◌∷◌, length, get_or, set, take, arith, refl, sym, ap, ◌∙◌, subst, add-one, inl, inr}
+use Rattle.int_tableau.proofs.Common.{◌≡◌, ℕ, zero, suc, ◌+◌, ◌<◌, ◌≤◌, ℤ, pos, ◌+ℤ◌, Bool, true, false, List, [], ◌∷◌, length, get_or, set, take, arith, refl, sym, ap, ◌∙◌, subst, add-one, inl, inr, eqb-true, get_or-set_same, get_or-set_other, same_or_not, only, at, entries_negated, mark_of, AreMarked}
 use Rattle.std.specs.Prelude.{◌==◌, ◌%◌}
-use borrow.Author.Tests.{eqb-true}
-use Rattle.std.proofs.lemmas.List.{get_or-set_same, get_or-set_other}
-use Rattle.written_method.proofs.PivotLaws.{same_or_not}
-use Rattle.int_tableau.specs.Entries.{only, at, entries_negated}
-use Rattle.int_tableau.specs.Marks.{mark_of, AreMarked}
 
 -- a column without a mark has no entry
 pub unmarked : (marks : List Bool) (es : List (ℕ × ℤ)) (c : ℕ) → AreMarked marks es → mark_of marks c ≡ false → at es c ≡ pos 0

@@ -1,13 +1,5 @@
 -- Two lists of entries are combined column by column.
-use Rattle.std.proofs.Common.{◌≡◌, ◌≢◌, ℕ, suc, ◌<◌, ◌≤◌, ℤ, pos, ◌+ℤ◌, Bool, true, false, List, [], ◌∷◌, ◌++◌, refl, sym, ap, ap₂, ◌∙◌, arith, inl, inr}
-use Rattle.std.specs.Prelude.{◌==◌}
-use Rattle.std.proofs.lemmas.Int.{ints}
-use Rattle.std.proofs.lemmas.Bool.{cases_lt}
-use Rattle.exact_num.specs.Range.{InRange, all_fit}
-use Rattle.written_method.specs.Lines.{less, less_formed}
-use Rattle.int_tableau.specs.Entries.{only, at, IsSparse, head_column, taken_number, taken_rest}
-use Rattle.int_tableau.specs.Pushes.{IsPushed}
-use Rattle.row_core.proofs.LessLaws.{zeros_fit, less-zeros, less-sum}
+use Rattle.int_tableau.proofs.Common.{◌≡◌, ◌≢◌, ℕ, suc, ◌<◌, ◌≤◌, ℤ, pos, ◌+ℤ◌, Bool, true, false, List, [], ◌∷◌, ◌++◌, refl, sym, ap, ap₂, ◌∙◌, arith, inl, inr, ◌==◌, ints, cases_lt, InRange, all_fit, less, less_formed, only, at, IsSparse, head_column, taken_number, taken_rest, IsPushed, zeros_fit, less-zeros, less-sum}
 use Rattle.int_tableau.proofs.EntryLaws.{eq_no, at-before, at-none, at-taken, at-last, IsSparse-head, IsSparse-high, IsSparse-taken, IsSparse-last, taken_number-at}
 
 -- a times xs less b times ys so far: `out` has what is before `column`, and `ls` and `rs` are what is left

@@ -1,15 +1,5 @@
 -- Entries of 64 bits: what is read of them, and copies of them.
-use Rattle.std.proofs.Common.{◌≡◌, ◌<◌, ◌^◌, ◌+◌, ℕ, zero, suc, ℤ, Bool, true, false, List, [], ◌∷◌, ◌++◌, length, get_or, take, drop, sym, ap, ◌∙◌, subst, arith, to_z, of_z, lit<}
-use Rattle.std.specs.Int.{w64, w128}
-use Rattle.std.specs.Prelude.{unsigned_abs, ◌==◌}
-use Rattle.std.proofs.lemmas.Int.{ints, to_z-of_z}
-use Rattle.std.proofs.lemmas.List.{append_assoc, drop_more}
-use Rattle.exact_num.specs.Range.{InRange}
-use Rattle.exact_num.proofs.Integers.{unsigned_abs-int_div, unsigned_abs-neg_ℤ}
-use Rattle.exact_num.proofs.RangeLaws.{back_in_range}
-use Rattle.row_core.specs.Written.{entries_divided}
-use Rattle.int_tableau.specs.Entries.{only, taken_number, entries_negated}
-use Rattle.int_tableau.specs.Narrow.{AreNarrow}
+use Rattle.int_tableau.proofs.Common.{◌≡◌, ◌<◌, ◌^◌, ◌+◌, ℕ, zero, suc, ℤ, Bool, true, false, List, [], ◌∷◌, ◌++◌, length, get_or, take, drop, sym, ap, ◌∙◌, subst, arith, to_z, of_z, lit<, w64, w128, unsigned_abs, ◌==◌, ints, to_z-of_z, append_assoc, drop_more, InRange, unsigned_abs-int_div, unsigned_abs-neg_ℤ, back_in_range, entries_divided, only, taken_number, entries_negated, AreNarrow}
 
 -- ---- numbers
 

@@ -1,29 +1,12 @@
 -- The columns of variables: where they begin, their order, and the entries that numbers give them.
-use Rattle.std.proofs.Common.{◌≡◌, ◌≢◌, ℕ, zero, suc, ◌+◌, ◌<◌, ◌≤◌, ℤ, pos, neg_ℤ, ◌+ℤ◌, Bool, true, false, List, [], ◌∷◌, ◌++◌, Option, Some, None, get_or, arith, refl, sym, ap, ap₂, ◌∙◌, subst, zero-add, if◌then◌else◌}
-use Rattle.std.specs.Prelude.{⊤, ◌==◌}
+use Rattle.int_tableau.proofs.Common.{◌≡◌, ◌≢◌, ℕ, zero, suc, ◌+◌, ◌<◌, ◌≤◌, ℤ, pos, neg_ℤ, ◌+ℤ◌, Bool, true, false, List, [], ◌∷◌, ◌++◌, Option, Some, None, get_or, arith, refl, sym, ap, ap₂, ◌∙◌, subst, zero-add, if◌then◌else◌, ⊤, ◌==◌, ints, InRange, in_range, all_fit, InRange-from_test, InRange-neg_ℤ, all_fit-cons, Sense, Least, Equal, Most, Var, value_at, is_zero, keys_of, numbers_of, ascends, var_cmp, number_at, is_zero-fact, as_most, by_column, width_of, is_split, only, at, IsSparse, after_columns, placed, in_columns, in_columns_of, column_entries}
 use Rattle.std.specs.Ordering.{is_eq}
 use Rattle.std.specs.Cmp.{both_ways}
-use Rattle.std.proofs.lemmas.Int.{ints}
-use Rattle.exact_num.specs.Range.{InRange, in_range, all_fit}
-use Rattle.exact_num.proofs.RangeLaws.{InRange-from_test, InRange-neg_ℤ}
-use Rattle.exact_num.proofs.StepLaws.{all_fit-cons}
 use Rattle.std.specs.declared.cmp.Ordering.TheVariants.{Less}
-use Rattle.row_core.specs.declared.Sense.{Sense}
-use Rattle.row_core.specs.declared.Sense.TheVariants.{Least, Equal, Most}
-use Rattle.row_core.specs.declared.Var.{Var}
-use Rattle.row_core.specs.LookUps.{value_at}
-use Rattle.row_core.specs.Numbers.{is_zero, keys_of, numbers_of, ascends}
-use Rattle.row_core.specs.Order.{var_cmp}
-use Rattle.row_core.specs.Rows.{number_at}
 use Rattle.row_core.proofs.AscendingLaws.{ascends-tail, both_passed}
-use Rattle.row_core.proofs.DivisionLaws.{is_zero-fact}
 use Rattle.row_core.proofs.Orders.{var_cmp_total}
 use Rattle.row_core.proofs.TermLaws.{same_alike}
-use Rattle.written_method.specs.FirstTableau.{as_most, by_column, width_of}
-use Rattle.written_method.specs.Programs.{is_split}
 use Rattle.written_method.proofs.VariableLaws.{same_var, apart_back, AreAfter, ascends-AreAfter, number_at-after}
-use Rattle.int_tableau.specs.Entries.{only, at, IsSparse}
-use Rattle.int_tableau.specs.Starts.{after_columns, placed, in_columns, in_columns_of, column_entries}
 use Rattle.int_tableau.proofs.EntryLaws.{eq_no, eq_yes}
 
 zero_plus : (z : ℤ) → pos 0 +ℤ z ≡ z

@@ -1,13 +1,6 @@
 -- Products of numbers below 2^63, and their differences; and a list that is written has no more entries than columns before the next.
-use Rattle.std.proofs.Common.{◌≡◌, ◌*◌, ◌<◌, ◌≤◌, ◌+◌, ◌^◌, ℕ, suc, ℤ, true, List, [], ◌∷◌, length, sym, ◌∙◌, subst, arith, ◌-ℤ◌, ◌*ℤ◌}
-use Rattle.std.specs.Prelude.{unsigned_abs}
-use Rattle.std.proofs.lemmas.Int.{ints, unsigned_abs-mul}
+use Rattle.int_tableau.proofs.Common.{◌≡◌, ◌*◌, ◌<◌, ◌≤◌, ◌+◌, ◌^◌, ℕ, suc, ℤ, true, List, [], ◌∷◌, length, sym, ◌∙◌, subst, arith, ◌-ℤ◌, ◌*ℤ◌, unsigned_abs, ints, unsigned_abs-mul, InRange, all_fit, in_range-yes, goes_on, less_formed, IsSparse, head_column}
 use Rattle.std.proofs.lemmas.Nat.{mul-le, mul-lt}
-use Rattle.exact_num.specs.Range.{InRange, all_fit}
-use Rattle.exact_num.proofs.RangeLaws.{in_range-yes}
-use Rattle.row_core.proofs.LessLaws.{goes_on}
-use Rattle.written_method.specs.Lines.{less_formed}
-use Rattle.int_tableau.specs.Entries.{IsSparse, head_column}
 use Rattle.int_tableau.proofs.HeadLaws.{IsMerging}
 use Rattle.int_tableau.proofs.EntryLaws.{head_column-from}
 

@@ -1,6 +1,5 @@
 -- How great the numbers of a line may be: examples, and near misses.
-use Rattle.std.proofs.Common.{ℕ, ◌^◌, ◌-◌, ◌≤◌, pos, negsuc, [], ◌∷◌, arith}
-use Rattle.int_tableau.specs.Sizes.{AreSure, AreWithin, IsSized}
+use Rattle.int_tableau.proofs.Common.{ℕ, ◌^◌, ◌-◌, ◌≤◌, pos, negsuc, [], ◌∷◌, arith, AreSure, AreWithin, IsSized}
 
 -- absolute values count
 within : AreWithin 5 (pos 5 ∷ negsuc 4 ∷ [])

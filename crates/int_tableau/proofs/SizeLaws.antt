@@ -1,18 +1,7 @@
 -- Sizes of the numbers of lists and lines.
-use Rattle.std.proofs.Common.{◌≡◌, ℕ, zero, suc, ◌+◌, ◌-◌, ◌<◌, ◌≤◌, ℤ, pos, ◌+ℤ◌, Bool, true, false, List, [], ◌∷◌, length, get_or, take, drop, arith, refl, sym, ap, ap₂, ◌∙◌, subst, lit<, add-one}
+use Rattle.int_tableau.proofs.Common.{◌≡◌, ℕ, zero, suc, ◌+◌, ◌-◌, ◌<◌, ◌≤◌, ℤ, pos, ◌+ℤ◌, Bool, true, false, List, [], ◌∷◌, length, get_or, take, drop, arith, refl, sym, ap, ap₂, ◌∙◌, subst, lit<, add-one, ints, eqb-true, InRange, unsigned_abs-neg_ℤ, common, numbers_of, common_divisor, row_divisor, gcd_of_assoc, only, at, spread, IsSparse, taken_number, entries_negated, line_seen, AreWithin, IsSized}
 use Rattle.std.specs.Prelude.{unsigned_abs, ◌==◌, if◌then◌else◌}
-use Rattle.std.proofs.lemmas.Int.{ints}
-use borrow.Author.Tests.{eqb-true}
-use Rattle.exact_num.specs.Range.{InRange}
-use Rattle.exact_num.proofs.Integers.{unsigned_abs-neg_ℤ}
-use Rattle.exact_num.specs.Formed.{common}
-use Rattle.row_core.specs.Numbers.{numbers_of}
-use Rattle.row_core.specs.Written.{common_divisor, row_divisor}
-use Rattle.row_core.proofs.WritingSteps.{gcd_of_assoc}
 use Rattle.written_method.specs.Lines.{numbers_of as numbers_in_line}
-use Rattle.int_tableau.specs.Entries.{only, at, spread, IsSparse, taken_number, entries_negated}
-use Rattle.int_tableau.specs.LineView.{line_seen}
-use Rattle.int_tableau.specs.Sizes.{AreWithin, IsSized}
 use Rattle.int_tableau.proofs.EntryLaws.{eq_no, at-before}
 use Rattle.int_tableau.proofs.DivisionLaws.{no_entry}
 

@@ -1,13 +1,5 @@
 -- Values solve a tableau exactly where they solve it with a row multiplied by -1; and without x0, exactly where they solve it with 0 for x0.
-use Rattle.std.proofs.Common.{◌≡◌, ◌≢◌, ℕ, suc, ◌-◌, ◌<◌, ◌≤◌, ◌↔◌, ℤ, pos, neg_ℤ, length, sym, ap, ◌∙◌, arith, inl, inr}
-use Rattle.std.proofs.lemmas.Int.{ints}
-use Rattle.written_method.specs.Basis.{IsShaped}
-use Rattle.written_method.specs.Lines.{Line}
-use Rattle.written_method.specs.Meaning.{Values, excess, Solves}
-use Rattle.written_method.specs.Tableaus.{Tableau, line_of, rows_of, negated, negated_line, without_x0}
-use Rattle.written_method.proofs.PivotLaws.{same_or_not}
-use Rattle.written_method.proofs.DroppedLaws.{excess-negated, length-lines-negated, line_of-negated, line_of-negated_other, excess-without_last, length-lines-without, line_of-without}
-use Rattle.int_tableau.specs.Counted.{with_none, SolvesWithout}
+use Rattle.int_tableau.proofs.Common.{◌≡◌, ◌≢◌, ℕ, suc, ◌-◌, ◌<◌, ◌≤◌, ◌↔◌, ℤ, pos, neg_ℤ, length, sym, ap, ◌∙◌, arith, inl, inr, ints, IsShaped, Line, Values, excess, Solves, Tableau, line_of, rows_of, negated, negated_line, without_x0, same_or_not, excess-negated, length-lines-negated, line_of-negated, line_of-negated_other, excess-without_last, length-lines-without, line_of-without, with_none, SolvesWithout}
 
 -- a line that is multiplied by -1 says so of the values
 opposite_at : (t : Tableau) (r i : ℕ) (v : Values) (o : ℤ) → r < length t.lines → i ≡ r → excess (line_of (negated r t) i) v o ≡ neg_ℤ (excess (line_of t i) v o)

@@ -1,23 +1,5 @@
 -- The first lines, entry by entry.
-use Rattle.std.proofs.Common.{◌≡◌, ◌≢◌, ℕ, zero, suc, ◌+◌, ◌<◌, ◌≤◌, ℤ, pos, negsuc, ◌+ℤ◌, Bool, true, false, List, [], ◌∷◌, ◌++◌, length, get_or, arith, refl, sym, ap, ap₂, ◌∙◌, subst, zero-add, lit<, if◌then◌else◌}
-use Rattle.std.specs.Prelude.{◌==◌}
-use Rattle.std.proofs.lemmas.Int.{ints}
-use Rattle.exact_num.specs.Range.{all_fit}
-use Rattle.row_core.specs.declared.Sense.{Sense}
-use Rattle.row_core.specs.declared.Sense.TheVariants.{Most}
-use Rattle.row_core.specs.declared.Var.{Var}
-use Rattle.row_core.specs.Numbers.{keys_of, numbers_of, ascends}
-use Rattle.row_core.specs.Order.{var_cmp}
-use Rattle.row_core.specs.Rows.{number_at}
-use Rattle.written_method.specs.FirstTableau.{any_negative, as_most, by_column, counted_from, first_tableau, width_of, zeros, slack_entries, x0_entry, row_line, row_lines, cost_line, artificial_line}
-use Rattle.written_method.specs.Lines.{Line}
-use Rattle.written_method.specs.Programs.{Inequality, LinearProgram}
-use Rattle.written_method.specs.Tableaus.{Tableau}
-use Rattle.written_method.proofs.FirstLaws.{length-by_column}
-use Rattle.std.proofs.lemmas.List.{append_assoc}
-use Rattle.int_tableau.specs.Entries.{only, at, spread, IsSparse}
-use Rattle.int_tableau.specs.LineView.{line_seen}
-use Rattle.int_tableau.specs.Starts.{placed, column_entries, x0_column}
+use Rattle.int_tableau.proofs.Common.{◌≡◌, ◌≢◌, ℕ, zero, suc, ◌+◌, ◌<◌, ◌≤◌, ℤ, pos, negsuc, ◌+ℤ◌, Bool, true, false, List, [], ◌∷◌, ◌++◌, length, get_or, arith, refl, sym, ap, ap₂, ◌∙◌, subst, zero-add, lit<, if◌then◌else◌, ◌==◌, ints, all_fit, Sense, Most, Var, keys_of, numbers_of, ascends, var_cmp, number_at, any_negative, as_most, by_column, counted_from, first_tableau, width_of, zeros, slack_entries, x0_entry, row_line, row_lines, cost_line, artificial_line, Line, Inequality, LinearProgram, Tableau, length-by_column, append_assoc, only, at, spread, IsSparse, line_seen, placed, column_entries, x0_column}
 use Rattle.int_tableau.proofs.EntryLaws.{eq_no, eq_yes, IsSparse-high, IsSparse-last}
 use Rattle.int_tableau.proofs.LineLaws.{at-high}
 use Rattle.int_tableau.proofs.PlaceLaws.{at-append, column_entries-at, column_entries-IsSparse}

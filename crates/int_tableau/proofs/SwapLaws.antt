@@ -1,13 +1,6 @@
 -- Two rows in each other's place keep the shape of a tableau.
-use Rattle.std.proofs.Common.{◌≡◌, ℕ, ◌<◌, ◌≤◌, pos, ap, ◌∙◌, inl, inr, List, length, get_or, set, arith, sym, subst}
+use Rattle.int_tableau.proofs.Common.{◌≡◌, ℕ, ◌<◌, ◌≤◌, pos, ap, ◌∙◌, inl, inr, List, length, get_or, set, arith, sym, subst, swap_is, get_or-set_same, get_or-set_other, length-set, same_or_not, Line, no_line, HaveColumns, AreBelow}
 use Rattle.std.specs.List.{swap}
-use Rattle.std.proofs.lemmas.List.Edits.{swap_is}
-use Rattle.std.proofs.lemmas.List.{get_or-set_same, get_or-set_other}
-use Rattle.std.proofs.Math.ListN.{length-set}
-use Rattle.written_method.proofs.PivotLaws.{same_or_not}
-use Rattle.written_method.specs.Lines.{Line}
-use Rattle.written_method.specs.Tableaus.{no_line}
-use Rattle.int_tableau.specs.Shapes.{HaveColumns, AreBelow}
 use Rattle.int_tableau.proofs.ListLaws.{HaveColumns-at, HaveColumns-set}
 use Rattle.int_tableau.proofs.TableauLaws.{AreBelow-at, AreBelow-set}
 

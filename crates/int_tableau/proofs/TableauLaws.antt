@@ -1,16 +1,7 @@
 -- One pivot over all lines.
-use Rattle.std.proofs.Common.{◌≡◌, ℕ, zero, suc, ◌+◌, ◌-◌, ◌^◌, ◌<◌, ◌≤◌, ◌≢◌, ℤ, pos, Bool, true, false, List, [], ◌∷◌, length, get_or, set, map, take, arith, refl, sym, ap, ◌∙◌, subst}
+use Rattle.int_tableau.proofs.Common.{◌≡◌, ℕ, zero, suc, ◌+◌, ◌-◌, ◌^◌, ◌<◌, ◌≤◌, ◌≢◌, ℤ, pos, Bool, true, false, List, [], ◌∷◌, length, get_or, set, map, take, arith, refl, sym, ap, ◌∙◌, subst, is_zero, row_divisor, no_line, others, without_last, IsShaped, counted_from, tableau_with, width_of, LinearProgram, IsShaped-first, line_seen, HaveColumns, AreBelow, HaveSome, IsNowhere, IsTableau}
 use Rattle.std.specs.Prelude.{flat_map, int_div, if◌then◌else◌}
-use Rattle.row_core.specs.Numbers.{is_zero}
-use Rattle.row_core.specs.Written.{row_divisor}
 use Rattle.written_method.specs.Lines.{Line, entry_of, numbers_of, all_less, line_less, lowest_line, factor_of, cleared, cleared_formed}
-use Rattle.written_method.specs.Tableaus.{no_line, others, without_last}
-use Rattle.written_method.specs.Basis.{IsShaped}
-use Rattle.written_method.specs.FirstTableau.{counted_from, tableau_with, width_of}
-use Rattle.written_method.specs.Programs.{LinearProgram}
-use Rattle.written_method.proofs.FirstLaws.{IsShaped-first}
-use Rattle.int_tableau.specs.LineView.{line_seen}
-use Rattle.int_tableau.specs.Shapes.{HaveColumns, AreBelow, HaveSome, IsNowhere, IsTableau}
 use Rattle.int_tableau.proofs.LineLaws.{entry_of-seen, cleared_formed-none}
 use Rattle.int_tableau.proofs.ListLaws.{formed-set, HaveColumns-at, HaveColumns-set, HaveColumns-map}
 

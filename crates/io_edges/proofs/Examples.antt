@@ -1,11 +1,8 @@
 -- The definitions, computed.
-use Rattle.std.proofs.Common.{◌≡◌, ℕ, ◌-◌, ◌^◌, true, false, List, [], ◌∷◌, Some, None, refl, arith, lit≤}
+use Rattle.io_edges.proofs.Common.{◌≡◌, ℕ, ◌-◌, ◌^◌, true, false, List, [], ◌∷◌, Some, None, refl, arith, lit≤, file_named, put_file, MovedFile, with_begin, with_read, Output, Took, TookPrefix, output}
 use Rattle.io_edges.specs.Count.{counted, counted_by, Rose}
-use Rattle.io_edges.specs.Files.{file_named, put_file}
 use Rattle.io_edges.specs.Edges.{Lacks}
 use Rattle.io_edges.specs.Memory.{ShelfState, SinkState, fails_next, begun, begin_failed, read_on, read_failed, written_on, write_failed}
-use Rattle.io_edges.specs.Moved.{MovedFile, with_begin, with_read}
-use Rattle.io_edges.specs.Outputs.{Output, Took, TookPrefix, output}
 use Rattle.io_edges.specs.Sure.{SureShelfState, SureSinkState, sure_opened, sure_read, sure_refused, sure_written}
 
 -- a counter goes up by one until it stays

@@ -1,14 +1,11 @@
 -- Files by name: what is found, and what putting one changes.
-use Rattle.std.proofs.Common.{◌≡◌, ◌≢◌, ℕ, ◌<◌, ◌+◌, Bool, true, false, List, [], ◌∷◌, ◌++◌, length, get_or, Some, None, cond, refl, ap, sym, ◌∙◌, arith, suc, zero}
+use Rattle.io_edges.proofs.Common.{◌≡◌, ◌≢◌, ℕ, ◌<◌, ◌+◌, Bool, true, false, List, [], ◌∷◌, ◌++◌, length, get_or, Some, None, cond, refl, ap, sym, ◌∙◌, arith, suc, zero, position, position_from, file_named, put_file, contents}
 use Rattle.std.proofs.Math.ListN.{set}
 use Rattle.std.proofs.lemmas.Slice.Eq.{bytes_eq-Decides}
 use Rattle.std.proofs.lemmas.Bool.{false_from_ne_true}
 use Rattle.std.proofs.lemmas.List.Quantifiers.{position-Some}
 use Rattle.std.proofs.lemmas.Iterator.Adapters.{position_from-zero}
 use Rattle.std.specs.Str.{bytes_eq}
-use Rattle.std.specs.List.{position, position_from}
-use Rattle.io_edges.specs.Files.{file_named, put_file}
-use Rattle.io_edges.specs.Named.{contents}
 use Rattle.io_edges.specs.declared.mem_shelf.NamedFile.{NamedFile}
 
 -- whether a file has this name

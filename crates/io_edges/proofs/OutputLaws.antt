@@ -1,8 +1,7 @@
 -- What a sink took, piece after piece.
-use Rattle.std.proofs.Common.{◌≡◌, ℕ, List, [], ◌++◌, length, length-append, take, Option, Some, ap, sym, ◌∙◌, subst, append_assoc, arith}
+use Rattle.io_edges.proofs.Common.{◌≡◌, ℕ, List, [], ◌++◌, length, length-append, take, Option, Some, ap, sym, ◌∙◌, subst, append_assoc, arith, Output, Took, TookPrefix, output}
 use Rattle.std.proofs.lemmas.List.{append-nil}
 use Rattle.std.proofs.Math.Seq.{take-append_seam}
-use Rattle.io_edges.specs.Outputs.{Output, Took, TookPrefix, output}
 
 -- it took nothing
 pub took-nothing : (o : Output) → Took o o []

@@ -1,13 +1,6 @@
 -- How the machine that reads statements takes the values of a row.
-use Rattle.std.proofs.Common.{◌≡◌, ◌≢◌, ℕ, ◌<◌, Bool, true, List, [], ◌∷◌, length, Option, refl, ap, ◌∙◌, arith}
-use Rattle.mathprog_data.specs.declared.blocks.Mark.{Mark}
-use Rattle.mathprog_data.specs.declared.words.Word.{Word}
+use Rattle.mathprog_data.proofs.Common.{◌≡◌, ◌≢◌, ℕ, ◌<◌, Bool, true, List, [], ◌∷◌, length, Option, refl, ap, ◌∙◌, arith, Mark, Word, InRow, Go, Emit, ValueGiven, row_left, cell, number, Slice, Name, Number, given, cell_index}
 use Rattle.mathprog_data.specs.declared.words.Word.TheVariants as words
-use Rattle.mathprog_data.specs.MachineStates.{InRow, Go, Emit, ValueGiven}
-use Rattle.mathprog_data.specs.MachineSteps.{row_left, cell, number}
-use Rattle.mathprog_data.specs.Slices.{Slice}
-use Rattle.mathprog_data.specs.Symbols.{Name, Number}
-use Rattle.mathprog_data.specs.Tables.{given, cell_index}
 
 module _ (param : ℕ) (slice : Slice) (transposed : Bool) (columns : List Name) (row : Name) (mark : Mark) where
   -- the row goes on where columns are left

@@ -1,19 +1,12 @@
 -- What could stand after tokens is what the machine would take there.
-use Rattle.std.proofs.Common.{◌≡◌, true, false, List, [], ◌∷◌, ◌++◌, codes, Some, None, refl, ap, subst}
+use Rattle.mathprog_data.proofs.Common.{◌≡◌, true, false, List, [], ◌∷◌, ◌++◌, codes, Some, None, refl, ap, subst, numerator, denominator, number_of, Bare, Placed, SymbolSeen, Open, Fresh, Event, Turn, Stop, Go, Emit, seen_of, turn, reading, BeginsLoose}
 use Rattle.std.specs.Prelude.{pos}
-use Rattle.scaled_decimals.specs.DecimalReading.{numerator, denominator}
-use Rattle.scaled_decimals.specs.Digits.{number_of}
 use Rattle.mathprog_data.proofs.FaultTests.{goes_on, on, zero_seen, x_seen, point_seen, set_seen, param_seen}
 use Rattle.mathprog_data.proofs.GoodLists.{Way, loose-way, way-loose}
 use Rattle.mathprog_data.proofs.TokensSeen.{seen}
 use Rattle.mathprog_data.proofs.WalkLaws.{Reached, reached, Walks, AtEnds, cut, joined, same_end}
 use Rattle.mathprog_data.proofs.Walks.{done, go, emit}
 use Rattle.mathprog_data.specs.declared.words.Word.TheVariants as words
-use Rattle.mathprog_data.specs.Lexemes.{Bare, Placed}
-use Rattle.mathprog_data.specs.MachineStates.{SymbolSeen, Open, Fresh, Event, Turn, Stop, Go, Emit, seen_of}
-use Rattle.mathprog_data.specs.MachineSteps.{turn}
-use Rattle.mathprog_data.specs.NumberReading.{reading}
-use Rattle.mathprog_data.specs.StatementFaults.{BeginsLoose}
 
 -- ---- what is seen of the symbols that are tried
 reads-zero : reading (codes "0") ≡ Some (pos 0, false)

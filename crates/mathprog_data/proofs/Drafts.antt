@@ -1,14 +1,8 @@
 -- The events of statements give their blocks.
 use Rattle.std.proofs.Common.{◌≡◌, ℕ, ℤ, ◌+◌, ◌||◌, List, [], ◌∷◌, ◌++◌, map, sum, fold, flat_map, nat_eq, Option, Some, None, sym, refl, ap, ap₂, ◌∙◌, append_assoc, append-nil, add_assoc, arith}
-use Rattle.std.specs.List.{list_any}
+use Rattle.mathprog_data.proofs.Common.{list_any, Event, Begins, SetClosed, ParamClosed, Draft, empty_draft, drafted, is_second, GivenValue, SetBlock, ParamBlock, value_of, default_value, set_blocks, param_blocks, count_of, rounded_values, rounded_default, rounded_of, blocks_of, SetItem, ParamItem, item_begun, is_named, Form, Listed, Tabbing, Begun, SetBegun, ParamBegun, TabbingBegun, Statement, Set, Param, Name, Number, Given}
 use Rattle.mathprog_data.proofs.RunLaws.{noted_all}
 use Rattle.mathprog_data.proofs.Walks.{member_events, given_events, default_events, param_events, statement_events, statements_events}
-use Rattle.mathprog_data.specs.MachineStates.{Event, Begins, SetClosed, ParamClosed, Draft, empty_draft, drafted}
-use Rattle.mathprog_data.specs.MachineSteps.{is_second}
-use Rattle.mathprog_data.specs.Meaning.{GivenValue, SetBlock, ParamBlock, value_of, default_value, set_blocks, param_blocks, count_of, rounded_values, rounded_default, rounded_of, blocks_of, SetItem, ParamItem, item_begun, is_named}
-use Rattle.mathprog_data.specs.Statements.{Form, Listed, Tabbing, Begun, SetBegun, ParamBegun, TabbingBegun, Statement, Set, Param}
-use Rattle.mathprog_data.specs.Symbols.{Name, Number}
-use Rattle.mathprog_data.specs.Tables.{Given}
 
 sum-from : (a : ℕ) (ns : List ℕ) → fold ◌+◌ a ns ≡ a + sum ns
 sum-from a [] = omega arith

@@ -1,24 +1,12 @@
 -- From each state that is reached the machine can come to an end.
-use Rattle.std.proofs.Common.{◌≡◌, ℕ, zero, suc, nat_eq, Bool, true, false, cond, List, [], ◌∷◌, ◌++◌, codes, Option, Some, None, refl, ap, subst}
+use Rattle.mathprog_data.proofs.Common.{◌≡◌, ℕ, zero, suc, nat_eq, Bool, true, false, cond, List, [], ◌∷◌, ◌++◌, codes, Option, Some, None, refl, ap, subst, numerator, denominator, number_of, Mark, Lexeme, Sign, Bare, Placed, Seen, Open, Fresh, DataRead, Between, EndRead, Ended, SetRead, InSet, ParamRead, ParamNamed, DefaultRead, LeadingDefault, LeadingNumber, TabbingColon, TabbingNamed, InRecords, InPlain, PlaceDue, PlaceRead, ParenRead, TrRead, TrClosed, InColumns, InRows, InRow, Event, ValueGiven, DefaultGiven, Turn, Go, Emit, turn, number, row_left, records, reading, results_path, subscript_count, Slice, index_at, all_free, Form, Listed, Name, Number, given}
 use Rattle.std.specs.Prelude.{pos}
-use Rattle.scaled_decimals.specs.DecimalReading.{numerator, denominator}
-use Rattle.scaled_decimals.specs.Digits.{number_of}
 use Rattle.mathprog_data.proofs.SectionsTaken.{Finished, finished}
 use Rattle.mathprog_data.proofs.TokensSeen.{seen}
 use Rattle.mathprog_data.proofs.TurnLaws.{IsSane, has_some, Holds, stop, goes, emits, holds}
 use Rattle.mathprog_data.proofs.WalkLaws.{reached, Walks}
 use Rattle.mathprog_data.proofs.Walks.{Takes, done, go, emit}
-use Rattle.mathprog_data.specs.declared.blocks.Mark.{Mark}
 use Rattle.mathprog_data.specs.declared.lexeme.Sign.TheVariants as signs
-use Rattle.mathprog_data.specs.Lexemes.{Lexeme, Sign, Bare, Placed}
-use Rattle.mathprog_data.specs.MachineStates.{Seen, Open, Fresh, DataRead, Between, EndRead, Ended, SetRead, InSet, ParamRead, ParamNamed, DefaultRead, LeadingDefault, LeadingNumber, TabbingColon, TabbingNamed, InRecords, InPlain, PlaceDue, PlaceRead, ParenRead, TrRead, TrClosed, InColumns, InRows, InRow, Event, ValueGiven, DefaultGiven, Turn, Go, Emit}
-use Rattle.mathprog_data.specs.MachineSteps.{turn, number, row_left, records}
-use Rattle.mathprog_data.specs.NumberReading.{reading}
-use Rattle.model_sets.specs.Params.{results_path, subscript_count}
-use Rattle.mathprog_data.specs.Slices.{Slice, index_at, all_free}
-use Rattle.mathprog_data.specs.Statements.{Form, Listed}
-use Rattle.mathprog_data.specs.Symbols.{Name, Number}
-use Rattle.mathprog_data.specs.Tables.{given}
 
 -- tokens that lead to an end, and their events
 pub record Ending (o : Open) : Type 0 where

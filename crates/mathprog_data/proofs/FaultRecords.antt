@@ -1,15 +1,8 @@
 -- The number of the fault with which the machine stops inside the records of a parameter.
-use Rattle.std.proofs.Common.{◌≡◌, ℕ, zero, suc, pos, Bool, true, false, cond, not, List, [], ◌∷◌, codes, Option, Some, None, refl, ap, ap₂, ◌∙◌, nat_eq}
+use Rattle.mathprog_data.proofs.Common.{◌≡◌, ℕ, zero, suc, pos, Bool, true, false, cond, not, List, [], ◌∷◌, codes, Option, Some, None, refl, ap, ap₂, ◌∙◌, nat_eq, Mark, Seen, SignSeen, SymbolSeen, Open, ParamNamed, InRecords, InPlain, Stop, Go, Emit, Event, number, plain, bracket, table, subscript_count, results_path, Slice, free_count, all_free, Form, Listed, Tabbing, Name, Number}
 use Rattle.std.specs.Prelude.{◌&&◌, ◌||◌}
-use Rattle.mathprog_data.specs.declared.blocks.Mark.{Mark}
 use Rattle.mathprog_data.specs.declared.lexeme.Sign.TheVariants as signs
 use Rattle.mathprog_data.specs.declared.words.Word.TheVariants as words
-use Rattle.mathprog_data.specs.MachineStates.{Seen, SignSeen, SymbolSeen, Open, ParamNamed, InRecords, InPlain, Stop, Go, Emit, Event}
-use Rattle.mathprog_data.specs.MachineSteps.{number, plain, bracket, table}
-use Rattle.model_sets.specs.Params.{subscript_count, results_path}
-use Rattle.mathprog_data.specs.Slices.{Slice, free_count, all_free}
-use Rattle.mathprog_data.specs.Statements.{Form, Listed, Tabbing}
-use Rattle.mathprog_data.specs.Symbols.{Name, Number}
 use Rattle.mathprog_data.proofs.FaultTests.{goes_on, cell_due, gives_due, Agrees, Agreed}
 
 -- ---- symbols of plain data

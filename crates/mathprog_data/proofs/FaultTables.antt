@@ -1,14 +1,8 @@
 -- The number of the fault with which the machine stops in slices and tables.
-use Rattle.std.proofs.Common.{◌≡◌, ◌≤◌, ◌+◌, ℕ, zero, suc, Bool, true, false, List, [], ◌∷◌, Some, None, refl, ap, nat_eq}
+use Rattle.mathprog_data.proofs.Common.{◌≡◌, ◌≤◌, ◌+◌, ℕ, zero, suc, Bool, true, false, List, [], ◌∷◌, Some, None, refl, ap, nat_eq, Mark, Seen, SignSeen, SymbolSeen, Open, Fresh, DataRead, Between, EndRead, Ended, SetRead, InSet, ParamRead, ParamNamed, DefaultRead, LeadingDefault, LeadingNumber, TabbingColon, TabbingNamed, InRecords, InPlain, PlaceDue, PlaceRead, ParenRead, TrRead, TrClosed, InColumns, InRows, InRow, Stop, bracket, subscript_count, Slice, free_count, Name}
 use Rattle.std.specs.Prelude.{◌||◌}
-use Rattle.mathprog_data.specs.declared.blocks.Mark.{Mark}
 use Rattle.mathprog_data.specs.declared.lexeme.Sign.TheVariants as signs
 use Rattle.mathprog_data.specs.declared.words.Word.TheVariants as words
-use Rattle.mathprog_data.specs.MachineStates.{Seen, SignSeen, SymbolSeen, Open, Fresh, DataRead, Between, EndRead, Ended, SetRead, InSet, ParamRead, ParamNamed, DefaultRead, LeadingDefault, LeadingNumber, TabbingColon, TabbingNamed, InRecords, InPlain, PlaceDue, PlaceRead, ParenRead, TrRead, TrClosed, InColumns, InRows, InRow, Stop}
-use Rattle.mathprog_data.specs.MachineSteps.{bracket}
-use Rattle.model_sets.specs.Params.{subscript_count}
-use Rattle.mathprog_data.specs.Slices.{Slice, free_count}
-use Rattle.mathprog_data.specs.Symbols.{Name}
 use Rattle.mathprog_data.proofs.FaultTests.{goes_on, Agrees, Agreed, fresh-agreed, between-agreed, data-agreed, end-agreed, ended-agreed, set_read-agreed, in_set-agreed, param_read-agreed, leading_default-agreed, default_read-agreed, leading_number-agreed, tabbing_colon-agreed, tabbing_named-agreed}
 use Rattle.mathprog_data.proofs.FaultRecords.{table-agreed, in_records-agreed, param_named-agreed, in_plain-agreed}
 

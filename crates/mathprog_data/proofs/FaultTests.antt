@@ -1,17 +1,8 @@
 -- The number of the fault with which the machine stops, by what else could stand there.
-use Rattle.std.proofs.Common.{◌≡◌, ℕ, pos, Bool, true, false, not, List, [], ◌∷◌, codes, Option, Some, None, refl, nat_eq}
+use Rattle.mathprog_data.proofs.Common.{◌≡◌, ℕ, pos, Bool, true, false, not, List, [], ◌∷◌, codes, Option, Some, None, refl, nat_eq, is_none, Mark, unknown_name, wrong_slice, row_too_short, bad_number, tabbing, Seen, SignSeen, SymbolSeen, Open, Fresh, DataRead, Between, EndRead, Ended, SetRead, InSet, ParamRead, ParamNamed, DefaultRead, LeadingDefault, LeadingNumber, TabbingColon, TabbingNamed, InRecords, InPlain, PlaceDue, PlaceRead, ParenRead, TrRead, TrClosed, InColumns, InRows, InRow, Turn, Stop, Go, Emit, turn, set_name, param_name, tabbing_name, set_number, param_number, subscript_count, Listed, Number}
 use Rattle.std.specs.Prelude.{◌&&◌, ◌||◌}
-use Rattle.std.specs.Option.{is_none}
-use Rattle.mathprog_data.specs.declared.blocks.Mark.{Mark}
 use Rattle.mathprog_data.specs.declared.lexeme.Sign.TheVariants as signs
 use Rattle.mathprog_data.specs.declared.words.Word.TheVariants as words
-use Rattle.mathprog_data.specs.Faults.{unknown_name, wrong_slice, row_too_short, bad_number, tabbing}
-use Rattle.mathprog_data.specs.MachineStates.{Seen, SignSeen, SymbolSeen, Open, Fresh, DataRead, Between, EndRead, Ended, SetRead, InSet, ParamRead, ParamNamed, DefaultRead, LeadingDefault, LeadingNumber, TabbingColon, TabbingNamed, InRecords, InPlain, PlaceDue, PlaceRead, ParenRead, TrRead, TrClosed, InColumns, InRows, InRow, Turn, Stop, Go, Emit}
-use Rattle.mathprog_data.specs.MachineSteps.{turn, set_name, param_name, tabbing_name}
-use Rattle.model_sets.specs.Names.{set_number}
-use Rattle.model_sets.specs.Params.{param_number, subscript_count}
-use Rattle.mathprog_data.specs.Statements.{Listed}
-use Rattle.mathprog_data.specs.Symbols.{Number}
 
 -- ---- what else could stand there
 -- the turn isn't a stop

@@ -1,6 +1,5 @@
 -- The number with which the machine stops at a token is the one that the token carries, and no other.
-use Rattle.std.proofs.Common.{◌≡◌, ℕ, ◌⊎◌, inl, inr, nat_eq, Bool, true, false, ◌||◌, List, sym, refl, ap, ap₂, ◌∙◌, subst}
-use Rattle.std.proofs.lemmas.Bool.{eqb-true}
+use Rattle.mathprog_data.proofs.Common.{◌≡◌, ℕ, ◌⊎◌, inl, inr, nat_eq, Bool, true, false, ◌||◌, List, sym, refl, ap, ap₂, ◌∙◌, subst, eqb-true, unexpected, unknown_name, wrong_slice, row_too_short, bad_number, tabbing, Placed, Seen, Open, Turn, Stop, turn, BeginsLoose, IsRefused, Carries, IsUnknownName, IsWrongSlice, IsRowTooShort, IsBadNumber, IsTabbing}
 use Rattle.mathprog_data.proofs.CouldStand.{could-on}
 use Rattle.mathprog_data.proofs.Endings.{sane-walk}
 use Rattle.mathprog_data.proofs.FaultTables.{agreed}
@@ -9,11 +8,6 @@ use Rattle.mathprog_data.proofs.SaneSound.{sane-sound}
 use Rattle.mathprog_data.proofs.StatementFaultLaws.{Beyond, Lacking, or-either, test-unknown, unknown-test, test-wrong, wrong-test, test-short, short-test, test-bad, bad-test, test-tabbing, tabbing-test}
 use Rattle.mathprog_data.proofs.TokensSeen.{seen}
 use Rattle.mathprog_data.proofs.TurnLaws.{Holds, stop, goes, emits, holds, is_fault}
-use Rattle.mathprog_data.specs.Faults.{unexpected, unknown_name, wrong_slice, row_too_short, bad_number, tabbing}
-use Rattle.mathprog_data.specs.Lexemes.{Placed}
-use Rattle.mathprog_data.specs.MachineStates.{Seen, Open, Turn, Stop}
-use Rattle.mathprog_data.specs.MachineSteps.{turn}
-use Rattle.mathprog_data.specs.StatementFaults.{BeginsLoose, IsRefused, Carries, IsUnknownName, IsWrongSlice, IsRowTooShort, IsBadNumber, IsTabbing}
 use Rattle.mathprog_data.specs.StatementFaults as faults
 
 -- ---- the tests at a stop

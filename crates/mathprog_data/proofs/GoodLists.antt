@@ -1,5 +1,5 @@
 -- A list is good exactly where the machine goes through it, and means blocks exactly where it then may end.
-use Rattle.std.proofs.Common.{◌≡◌, true, List, [], Ok, sym, ap, ◌∙◌}
+use Rattle.mathprog_data.proofs.Common.{◌≡◌, true, List, [], Ok, sym, ap, ◌∙◌, Placed, Open, Fresh, Event, empty_draft, drafted, Reader, beginning, reader, may_end, Blocks, Means, BeginsLoose, IsGood}
 use Rattle.mathprog_data.proofs.Drafts.{drafted-all}
 use Rattle.mathprog_data.proofs.Endings.{ending, sane-walk}
 use Rattle.mathprog_data.proofs.NamesOnce.{names-new, new-names}
@@ -8,12 +8,7 @@ use Rattle.mathprog_data.proofs.SectionMeans.{taken-loose}
 use Rattle.mathprog_data.proofs.SectionsTaken.{Finished, finished, take_loose}
 use Rattle.mathprog_data.proofs.WalkLaws.{reached, Walks, AtEnds, cut, joined}
 use Rattle.mathprog_data.proofs.Walks.{Takes, done, go, emit, statements_events}
-use Rattle.mathprog_data.specs.Lexemes.{Placed}
 use Rattle.mathprog_data.specs.MachineRuns.{run}
-use Rattle.mathprog_data.specs.MachineStates.{Open, Fresh, Event, empty_draft, drafted, Reader}
-use Rattle.mathprog_data.specs.MachineSteps.{beginning, reader, may_end}
-use Rattle.mathprog_data.specs.Meaning.{Blocks, Means}
-use Rattle.mathprog_data.specs.StatementFaults.{BeginsLoose, IsGood}
 
 Finished-ends : AtEnds Finished
 Finished-ends o t ts f = elim f [ ]

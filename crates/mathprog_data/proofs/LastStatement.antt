@@ -1,19 +1,8 @@
 -- The last statement of a list that the machine goes over: whether it is an ordinary one of a parameter without subscripts.
-use Rattle.std.proofs.Common.{◌≡◌, ◌≢◌, ℕ, Bool, true, false, List, [], ◌∷◌, ◌++◌, codes, Option, Some, None, refl, sym, ap, ◌∙◌, subst, nat_eq}
+use Rattle.mathprog_data.proofs.Common.{◌≡◌, ◌≢◌, ℕ, Bool, true, false, List, [], ◌∷◌, ◌++◌, codes, Option, Some, None, refl, sym, ap, ◌∙◌, subst, nat_eq, eqb-true, Mark, Word, Placed, Seen, SignSeen, SymbolSeen, Open, Fresh, Between, Ended, ParamRead, ParamNamed, DefaultRead, InRecords, InPlain, PlaceDue, PlaceRead, ParenRead, TrRead, TrClosed, InColumns, InRows, InRow, Turn, Stop, Go, Emit, Event, Begins, seen_of, turn, param_name, set_number, param_number, subscript_count, LacksSubscripts, IsClosed, nothing, semicolon, HasNoSemicolon, Listed, ParamBegun, Name, Number, IsSign, IsKeyword, IsSymbol}
 use Rattle.std.specs.Prelude.{◌&&◌}
-use Rattle.std.proofs.lemmas.Bool.{eqb-true}
-use Rattle.mathprog_data.specs.declared.blocks.Mark.{Mark}
 use Rattle.mathprog_data.specs.declared.lexeme.Sign.TheVariants as signs
-use Rattle.mathprog_data.specs.declared.words.Word.{Word}
 use Rattle.mathprog_data.specs.declared.words.Word.TheVariants as words
-use Rattle.mathprog_data.specs.Lexemes.{Placed}
-use Rattle.mathprog_data.specs.MachineStates.{Seen, SignSeen, SymbolSeen, Open, Fresh, Between, Ended, ParamRead, ParamNamed, DefaultRead, InRecords, InPlain, PlaceDue, PlaceRead, ParenRead, TrRead, TrClosed, InColumns, InRows, InRow, Turn, Stop, Go, Emit, Event, Begins, seen_of}
-use Rattle.mathprog_data.specs.MachineSteps.{turn, param_name}
-use Rattle.model_sets.specs.Names.{set_number}
-use Rattle.model_sets.specs.Params.{param_number, subscript_count}
-use Rattle.mathprog_data.specs.StatementFaults.{LacksSubscripts, IsClosed, nothing, semicolon, HasNoSemicolon}
-use Rattle.mathprog_data.specs.Statements.{Listed, ParamBegun}
-use Rattle.mathprog_data.specs.Symbols.{Name, Number, IsSign, IsKeyword, IsSymbol}
 use Rattle.mathprog_data.proofs.FaultTests.{lacks}
 use Rattle.mathprog_data.proofs.TokensSeen.{seen, sign-seen, seen-sign, symbol-seen, seen-symbol, seen-keyword, default-no_param}
 use Rattle.mathprog_data.proofs.TurnLaws.{Moved, Holds, goes, emits, holds, is_semicolon, is_param_word, is_closed, is_start, is_fresh, is_param_read, listed_in}

@@ -1,7 +1,6 @@
 -- What symbols name, on examples.
-use Rattle.std.proofs.Common.{◌≡◌, refl, false}
+use Rattle.mathprog_data.proofs.Common.{◌≡◌, refl, false, Bare, Quoted, name_of, undoubled}
 use Rattle.std.specs.Prelude.{codes}
-use Rattle.mathprog_data.specs.Lexemes.{Bare, Quoted, name_of, undoubled}
 
 -- zeros before digits aren't part of the name
 leading_zeros : name_of (Bare (codes "0042")) ≡ codes "42"

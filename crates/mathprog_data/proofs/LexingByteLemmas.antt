@@ -1,8 +1,5 @@
 -- The kinds of bytes exclude one another.
-use Rattle.std.proofs.Common.{◌≡◌, ℕ, Bool, true, false, ◌||◌, ◌==◌, inl, inr, refl, sym, subst}
-use Rattle.std.proofs.lemmas.Bool.{or_cases, eqb-true}
-use Rattle.mathprog_data.specs.Places.{is_line_feed}
-use Rattle.mathprog_data.specs.LexingBytes.{is_separator, is_symbol_byte, is_quote, is_printable}
+use Rattle.mathprog_data.proofs.Common.{◌≡◌, ℕ, Bool, true, false, ◌||◌, ◌==◌, inl, inr, refl, sym, subst, or_cases, eqb-true, is_line_feed, is_separator, is_symbol_byte, is_quote, is_printable}
 
 -- what holds of a byte holds of one that is equal to it
 pub at_byte : (P : ℕ → Type 0) (byte n : ℕ) → P n → (byte == n) ≡ true → P byte

@@ -1,15 +1,6 @@
 -- The closing `end ;`, told token by token, is the one of the whole list.
-use Rattle.std.proofs.Common.{◌≡◌, ℕ, Bool, true, false, cond, ◌||◌, List, [], ◌∷◌, ◌++◌, map, Option, None, Some, refl, sym, ap, ◌∙◌}
-use Rattle.std.proofs.lemmas.Bool.{or_parts, cond-true, cond-false}
-use Rattle.std.proofs.Math.Bool.{or-false}
-use Rattle.mathprog_data.specs.declared.fault.DataFault.{DataFault}
+use Rattle.mathprog_data.proofs.Common.{◌≡◌, ℕ, Bool, true, false, cond, ◌||◌, List, [], ◌∷◌, ◌++◌, map, Option, None, Some, refl, sym, ap, ◌∙◌, or_parts, cond-true, cond-false, or-false, DataFault, Span, Closing, Free, End, Inside, Lexeme, Sign, Bare, Quoted, is_semicolon, is_end, closes_after, has_closing, LexingEnd, TextEnds, Closes, Fails, closes, closing_after, placed_of, lexed_from, with_token}
 use Rattle.mathprog_data.specs.declared.lexeme.Sign.TheVariants.{Semicolon}
-use Rattle.mathprog_data.specs.declared.lexer.Span.{Span}
-use Rattle.mathprog_data.specs.declared.closing.Closing.{Closing}
-use Rattle.mathprog_data.specs.declared.closing.Closing.TheVariants.{Free, End, Inside}
-use Rattle.mathprog_data.specs.Lexemes.{Lexeme, Sign, Bare, Quoted}
-use Rattle.mathprog_data.specs.Lexing.{is_semicolon, is_end, closes_after, has_closing, LexingEnd, TextEnds, Closes, Fails}
-use Rattle.mathprog_data.specs.LexingRuns.{closes, closing_after, placed_of, lexed_from, with_token}
 use Rattle.mathprog_data.proofs.LexingPlaced.{said}
 
 -- some token closes the text, told token by token

@@ -1,15 +1,7 @@
 -- Gaps, tokens and lexical faults computed on examples, with near misses.
-use Rattle.std.proofs.Common.{◌≡◌, ℕ, true, false, [], ◌∷◌, ◌++◌, refl, inl}
+use Rattle.mathprog_data.proofs.Common.{◌≡◌, ℕ, true, false, [], ◌∷◌, ◌++◌, refl, inl, list_all, Mark, bad_byte, open_string, open_comment, place_after, is_symbol_byte, is_printable, is_separator, Lexeme, Sign, Bare, Quoted, Placed, Separator, LineComment, BlockComment, SignToken, BareToken, QuotedToken, IsWhole, spelling, begins_piece, StrayByte, BadInQuotes, OpenQuotes, OpenBlock, IsFlaw, Lexes, TextEnds, Closes, Fails, Tokens, has_closing}
 use Rattle.std.specs.Prelude.{codes}
-use Rattle.std.specs.List.{list_all}
-use Rattle.mathprog_data.specs.declared.blocks.Mark.{Mark}
 use Rattle.mathprog_data.specs.declared.lexeme.Sign.TheVariants as signs
-use Rattle.mathprog_data.specs.Faults.{bad_byte, open_string, open_comment}
-use Rattle.mathprog_data.specs.Places.{place_after}
-use Rattle.mathprog_data.specs.LexingBytes.{is_symbol_byte, is_printable, is_separator}
-use Rattle.mathprog_data.specs.Lexemes.{Lexeme, Sign, Bare, Quoted, Placed}
-use Rattle.mathprog_data.specs.LexingPieces.{Separator, LineComment, BlockComment, SignToken, BareToken, QuotedToken, IsWhole, spelling, begins_piece, StrayByte, BadInQuotes, OpenQuotes, OpenBlock, IsFlaw}
-use Rattle.mathprog_data.specs.Lexing.{Lexes, TextEnds, Closes, Fails, Tokens, has_closing}
 
 abbrev mark : ℕ → ℕ → Mark
 mark line column = record { line = line; column = column }

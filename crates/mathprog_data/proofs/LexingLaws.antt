@@ -1,20 +1,8 @@
 -- The lexer computes the lexing of every text, and there is no other.
-use Rattle.std.proofs.Common.{◌≡◌, ℕ, Bool, true, false, ◌||◌, inl, inr, List, [], ◌∷◌, ◌++◌, map, Option, None, Some, refl, sym, ap, subst, ◌∙◌, append-nil}
-use Rattle.std.proofs.lemmas.Bool.{cases_Bool}
-use Rattle.std.proofs.Math.Bool.{or-false}
-use Rattle.std.proofs.lemmas.List.{append_assoc}
-use Rattle.mathprog_data.specs.declared.fault.DataFault.{DataFault}
+use Rattle.mathprog_data.proofs.Common.{◌≡◌, ℕ, Bool, true, false, ◌||◌, inl, inr, List, [], ◌∷◌, ◌++◌, map, Option, None, Some, refl, sym, ap, subst, ◌∙◌, append-nil, cases_Bool, or-false, append_assoc, DataFault, Span, Closing, Free, End, Inside, place_after, Lexeme, Sign, Bare, Quoted, Placed, Piece, Separator, LineComment, BlockComment, SignToken, BareToken, QuotedToken, IsWhole, spelling, flawed, Lexes, LexingEnd, TextEnds, Closes, Fails, Ends, spellings, AreWhole, placed_after, lexemes_of, lexemes_in, has_closing, fault_of, bytes_passed, run, nothing_more, placed_of, closes, closing_after, Lexed, lexed_from, lexed_run, lexed}
 use Rattle.mathprog_data.specs.declared.lexeme.Sign.{Sign as TheSign}
 use Rattle.mathprog_data.specs.declared.lexeme.Sign.TheVariants as signs
 use Rattle.mathprog_data.specs.declared.lexer.Kind.TheVariants as kinds
-use Rattle.mathprog_data.specs.declared.lexer.Span.{Span}
-use Rattle.mathprog_data.specs.declared.closing.Closing.{Closing}
-use Rattle.mathprog_data.specs.declared.closing.Closing.TheVariants.{Free, End, Inside}
-use Rattle.mathprog_data.specs.Places.{place_after}
-use Rattle.mathprog_data.specs.Lexemes.{Lexeme, Sign, Bare, Quoted, Placed}
-use Rattle.mathprog_data.specs.LexingPieces.{Piece, Separator, LineComment, BlockComment, SignToken, BareToken, QuotedToken, IsWhole, spelling, flawed}
-use Rattle.mathprog_data.specs.Lexing.{Lexes, LexingEnd, TextEnds, Closes, Fails, Ends, spellings, AreWhole, placed_after, lexemes_of, lexemes_in, has_closing, fault_of, bytes_passed}
-use Rattle.mathprog_data.specs.LexingRuns.{run, nothing_more, placed_of, closes, closing_after, Lexed, lexed_from, lexed_run, lexed}
 use Rattle.mathprog_data.proofs.LexingSteps.{gap}
 use Rattle.mathprog_data.proofs.LexingRunTokens.{span}
 use Rattle.mathprog_data.proofs.LexingRunQuotes.{faulty}

@@ -1,14 +1,6 @@
 -- Every text is pieces in turn, up to its end or a flaw.
-use Rattle.std.proofs.Common.{◌≡◌, ℕ, zero, suc, ◌<◌, ◌≤◌, Bool, true, false, not, cond, ◌&&◌, ◌||◌, ◌==◌, ◌⊎◌, inl, inr, List, [], ◌∷◌, ◌++◌, length, refl, sym, ap, subst, ◌∙◌, arith}
-use Rattle.std.specs.List.{list_all}
-use Rattle.std.proofs.lemmas.Bool.{or_cases, or_from, and_parts, and_from, not-false, not-true, not_from_false, eqb-true, cases_Bool, cond-true, cond-false}
-use Rattle.std.proofs.lemmas.List.{append_assoc, length-append}
-use Rattle.std.proofs.lemmas.List.Folds.{list_all-append}
+use Rattle.mathprog_data.proofs.Common.{◌≡◌, ℕ, zero, suc, ◌<◌, ◌≤◌, Bool, true, false, not, cond, ◌&&◌, ◌||◌, ◌==◌, ◌⊎◌, inl, inr, List, [], ◌∷◌, ◌++◌, length, refl, sym, ap, subst, ◌∙◌, arith, list_all, or_cases, or_from, and_parts, and_from, not-false, not-true, not_from_false, eqb-true, cases_Bool, cond-true, cond-false, append_assoc, length-append, list_all-append, is_line_feed, is_separator, is_sign_byte, is_symbol_byte, is_quote, is_printable, stops, Piece, Separator, LineComment, BlockComment, SignToken, BareToken, QuotedToken, IsWhole, spelling, doubled, has_comment_end, is_one_line, Flaw, StrayByte, BadInQuotes, OpenQuotes, OpenBlock, IsFlaw, flawed, begins_piece, spellings, AreWhole}
 use Rattle.mathprog_data.specs.declared.lexeme.Sign.TheVariants as signs
-use Rattle.mathprog_data.specs.Places.{is_line_feed}
-use Rattle.mathprog_data.specs.LexingBytes.{is_separator, is_sign_byte, is_symbol_byte, is_quote, is_printable, stops}
-use Rattle.mathprog_data.specs.LexingPieces.{Piece, Separator, LineComment, BlockComment, SignToken, BareToken, QuotedToken, IsWhole, spelling, doubled, has_comment_end, is_one_line, Flaw, StrayByte, BadInQuotes, OpenQuotes, OpenBlock, IsFlaw, flawed, begins_piece}
-use Rattle.mathprog_data.specs.Lexing.{spellings, AreWhole}
 use Rattle.mathprog_data.proofs.LexingByteLemmas.{at_byte}
 
 -- the longest prefix of bytes that pass a test

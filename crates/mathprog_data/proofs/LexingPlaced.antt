@@ -1,14 +1,8 @@
 -- The tokens that the lexer sees are those of the pieces, with their places.
-use Rattle.std.proofs.Common.{◌≡◌, ℕ, ◌+◌, ◌-◌, Bool, true, false, cond, ◌==◌, List, [], ◌∷◌, ◌++◌, length, map, take, refl, sym, ap, ◌∙◌, arith}
+use Rattle.mathprog_data.proofs.Common.{◌≡◌, ℕ, ◌+◌, ◌-◌, Bool, true, false, cond, ◌==◌, List, [], ◌∷◌, ◌++◌, length, map, take, refl, sym, ap, ◌∙◌, arith, append_assoc, length-append, map-append, place_after, Lexeme, Sign, Bare, Quoted, Placed, undoubled, Piece, Separator, LineComment, BlockComment, SignToken, BareToken, QuotedToken, spelling, sign_bytes, doubled, placed_at, placed_after, spellings, lexemes_of, lexemes_in, placed_of}
 use Rattle.std.specs.Prelude.{slice_range}
-use Rattle.std.proofs.lemmas.List.{append_assoc, length-append, map-append}
 use Rattle.std.proofs.Math.Seq.{drop-append_seam}
 use Rattle.mathprog_data.specs.declared.lexer.Kind.TheVariants as kinds
-use Rattle.mathprog_data.specs.Places.{place_after}
-use Rattle.mathprog_data.specs.Lexemes.{Lexeme, Sign, Bare, Quoted, Placed, undoubled}
-use Rattle.mathprog_data.specs.LexingPieces.{Piece, Separator, LineComment, BlockComment, SignToken, BareToken, QuotedToken, spelling, sign_bytes, doubled}
-use Rattle.mathprog_data.specs.Lexing.{placed_at, placed_after, spellings, lexemes_of, lexemes_in}
-use Rattle.mathprog_data.specs.LexingRuns.{placed_of}
 use Rattle.mathprog_data.proofs.LexingRunTokens.{span}
 use Rattle.mathprog_data.proofs.LexingRunTexts.{spans_of, spans_after}
 

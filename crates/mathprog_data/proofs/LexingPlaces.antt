@@ -1,12 +1,5 @@
 -- The place after one more byte.
-use Rattle.std.proofs.Common.{◌≡◌, ℕ, ◌+◌, Bool, true, false, not, cond, List, [], ◌∷◌, ◌++◌, refl, ap, ◌∙◌, arith}
-use Rattle.std.specs.Prelude.{count_by}
-use Rattle.std.specs.List.{suffix_len, prefix_len}
-use Rattle.std.proofs.lemmas.List.{reverse-append}
-use Rattle.std.proofs.lemmas.List.Sums.{sum_by_push}
-use Rattle.mathprog_data.specs.declared.blocks.Mark.{Mark}
-use Rattle.mathprog_data.specs.Places.{place_after, is_line_feed}
-use Rattle.mathprog_data.specs.LexingMachine.{next_mark}
+use Rattle.mathprog_data.proofs.Common.{◌≡◌, ℕ, ◌+◌, Bool, true, false, not, cond, List, [], ◌∷◌, ◌++◌, refl, ap, ◌∙◌, arith, count_by, suffix_len, prefix_len, reverse-append, sum_by_push, Mark, place_after, is_line_feed, next_mark}
 
 abbrev in_line : ℕ → Bool
 in_line byte = not (is_line_feed byte)

@@ -1,13 +1,7 @@
 -- Past a byte that is quiet the lexer only goes on.
-use Rattle.std.proofs.Common.{◌≡◌, ℕ, Bool, true, false, not, cond, List, ◌∷◌, None, Some, refl, ap}
-use Rattle.std.proofs.lemmas.Bool.{not_from_false}
+use Rattle.mathprog_data.proofs.Common.{◌≡◌, ℕ, Bool, true, false, not, cond, List, ◌∷◌, None, Some, refl, ap, not_from_false, Pending, is_line_feed, is_separator, is_symbol_byte, State, quiet, passed, begun, in_comment, token_of, run, and_then}
 use Rattle.mathprog_data.specs.declared.lexer.Kind.TheVariants.{Bare}
-use Rattle.mathprog_data.specs.declared.lexer.pending.Pending.{Pending}
 use Rattle.mathprog_data.specs.declared.lexer.pending.Pending.TheVariants as pendings
-use Rattle.mathprog_data.specs.Places.{is_line_feed}
-use Rattle.mathprog_data.specs.LexingBytes.{is_separator, is_symbol_byte}
-use Rattle.mathprog_data.specs.LexingMachine.{State, quiet, passed, begun, in_comment, token_of}
-use Rattle.mathprog_data.specs.LexingRuns.{run, and_then}
 use Rattle.mathprog_data.proofs.LexingByteLemmas.{separator_is_no_symbol}
 
 where_true : (b : Bool) (x p : Pending) → cond b (Some x) None ≡ Some p → (b ≡ true) × (x ≡ p)

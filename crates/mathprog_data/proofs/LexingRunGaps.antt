@@ -1,17 +1,6 @@
 -- What the lexer sees of separators and comments: nothing.
-use Rattle.std.proofs.Common.{◌≡◌, ℕ, Bool, true, false, not, cond, ◌&&◌, ◌||◌, ◌==◌, List, [], ◌∷◌, ◌++◌, length, Option, None, Some, refl, sym, ap, ◌∙◌}
-use Rattle.std.specs.List.{list_all}
-use Rattle.std.proofs.lemmas.Bool.{and_parts, or_parts, not-false, not-true}
-use Rattle.std.proofs.lemmas.List.{append_assoc}
-use Rattle.std.proofs.Common.{append-nil}
-use Rattle.mathprog_data.specs.declared.blocks.Mark.{Mark}
-use Rattle.mathprog_data.specs.declared.lexer.pending.Pending.{Pending}
+use Rattle.mathprog_data.proofs.Common.{◌≡◌, ℕ, Bool, true, false, not, cond, ◌&&◌, ◌||◌, ◌==◌, List, [], ◌∷◌, ◌++◌, length, Option, None, Some, refl, sym, ap, ◌∙◌, list_all, and_parts, or_parts, not-false, not-true, append_assoc, append-nil, Mark, Pending, open_comment, place_after, is_line_feed, is_separator, stops, is_one_line, has_comment_end, run}
 use Rattle.mathprog_data.specs.declared.lexer.pending.Pending.TheVariants as pendings
-use Rattle.mathprog_data.specs.Faults.{open_comment}
-use Rattle.mathprog_data.specs.Places.{place_after, is_line_feed}
-use Rattle.mathprog_data.specs.LexingBytes.{is_separator, stops}
-use Rattle.mathprog_data.specs.LexingPieces.{is_one_line, has_comment_end}
-use Rattle.mathprog_data.specs.LexingRuns.{run}
 use Rattle.mathprog_data.proofs.LexingByteLemmas.{separator_is_no_symbol}
 use Rattle.mathprog_data.proofs.LexingSteps.{at, since, gap, at_passed, at_begun, run_ended, run_gap}
 

@@ -1,19 +1,8 @@
 -- What the lexer sees of quoted symbols, whole or not.
-use Rattle.std.proofs.Common.{◌≡◌, ℕ, Bool, true, false, not, cond, ◌||◌, ◌==◌, List, [], ◌∷◌, ◌++◌, length, Option, None, Some, refl, sym, ap, subst, ◌∙◌, append-nil}
-use Rattle.std.specs.Prelude.{is_some}
-use Rattle.std.specs.List.{list_all}
+use Rattle.mathprog_data.proofs.Common.{◌≡◌, ℕ, Bool, true, false, not, cond, ◌||◌, ◌==◌, List, [], ◌∷◌, ◌++◌, length, Option, None, Some, refl, sym, ap, subst, ◌∙◌, append-nil, is_some, list_all, list_all-append, append_assoc, Mark, bad_byte, open_string, place_after, is_line_feed, is_quote, is_printable, stops, QuotedToken, IsWhole, doubled, is_one_line, BadInQuotes, OpenQuotes, IsFlaw, flawed, spelling, State, begun, opened, silent, Run, run}
 use Rattle.std.proofs.lemmas.Bool.{and_parts, and_from, not-false, not-true, not_from_false, eq-eqb, eqb-true, cond-true, cond-false, false_from_ne_true, both_ways}
-use Rattle.std.proofs.lemmas.List.Folds.{list_all-append}
-use Rattle.std.proofs.lemmas.List.{append_assoc}
-use Rattle.mathprog_data.specs.declared.blocks.Mark.{Mark}
 use Rattle.mathprog_data.specs.declared.lexer.Kind.TheVariants.{Quoted}
 use Rattle.mathprog_data.specs.declared.lexer.pending.Pending.TheVariants as pendings
-use Rattle.mathprog_data.specs.Faults.{bad_byte, open_string}
-use Rattle.mathprog_data.specs.Places.{place_after, is_line_feed}
-use Rattle.mathprog_data.specs.LexingBytes.{is_quote, is_printable, stops}
-use Rattle.mathprog_data.specs.LexingPieces.{QuotedToken, IsWhole, doubled, is_one_line, BadInQuotes, OpenQuotes, IsFlaw, flawed, spelling}
-use Rattle.mathprog_data.specs.LexingMachine.{State, begun, opened, silent}
-use Rattle.mathprog_data.specs.LexingRuns.{Run, run}
 use Rattle.mathprog_data.proofs.LexingByteLemmas.{at_quote, printable_is_no_line_feed}
 use Rattle.mathprog_data.proofs.LexingSteps.{at, since, gap, follow, at_passed, run_ended}
 use Rattle.mathprog_data.proofs.LexingRunTokens.{SeesToken, begins}

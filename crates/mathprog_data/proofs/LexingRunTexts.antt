@@ -1,17 +1,7 @@
 -- What the lexer sees of pieces in turn, and of a flaw.
-use Rattle.std.proofs.Common.{◌≡◌, ℕ, Bool, true, false, not, cond, ◌&&◌, ◌||◌, ◌==◌, List, [], ◌∷◌, ◌++◌, length, None, refl, sym, ap, ◌∙◌, append-nil}
-use Rattle.std.proofs.lemmas.Bool.{or_parts, not-false}
-use Rattle.std.proofs.lemmas.List.{append_assoc}
+use Rattle.mathprog_data.proofs.Common.{◌≡◌, ℕ, Bool, true, false, not, cond, ◌&&◌, ◌||◌, ◌==◌, List, [], ◌∷◌, ◌++◌, length, None, refl, sym, ap, ◌∙◌, append-nil, or_parts, not-false, append_assoc, Span, bad_byte, place_after, is_separator, is_sign_byte, is_symbol_byte, is_quote, stops, Piece, Separator, LineComment, BlockComment, SignToken, BareToken, QuotedToken, IsWhole, spelling, sign_bytes, Flaw, StrayByte, BadInQuotes, OpenQuotes, OpenBlock, IsFlaw, flawed, begins_piece, spellings, AreWhole, fault_of, bytes_passed, opened, sign_of, sign_taken, silent, begun, Run, run}
 use Rattle.mathprog_data.specs.declared.lexer.Kind.TheVariants.{Sign, Bare, Quoted}
-use Rattle.mathprog_data.specs.declared.lexer.Span.{Span}
 use Rattle.mathprog_data.specs.declared.lexer.pending.Pending.TheVariants as pendings
-use Rattle.mathprog_data.specs.Faults.{bad_byte}
-use Rattle.mathprog_data.specs.Places.{place_after}
-use Rattle.mathprog_data.specs.LexingBytes.{is_separator, is_sign_byte, is_symbol_byte, is_quote, stops}
-use Rattle.mathprog_data.specs.LexingPieces.{Piece, Separator, LineComment, BlockComment, SignToken, BareToken, QuotedToken, IsWhole, spelling, sign_bytes, Flaw, StrayByte, BadInQuotes, OpenQuotes, OpenBlock, IsFlaw, flawed, begins_piece}
-use Rattle.mathprog_data.specs.Lexing.{spellings, AreWhole, fault_of, bytes_passed}
-use Rattle.mathprog_data.specs.LexingMachine.{opened, sign_of, sign_taken, silent, begun}
-use Rattle.mathprog_data.specs.LexingRuns.{Run, run}
 use Rattle.mathprog_data.proofs.LexingSteps.{gap, follow, run_ended}
 use Rattle.mathprog_data.proofs.LexingRunGaps.{run_separator, run_line_comment, run_block_comment, run_open_block}
 use Rattle.mathprog_data.proofs.LexingRunTokens.{span, run_sign, run_bare, begins}

@@ -1,21 +1,9 @@
 -- What the lexer sees of signs, symbols and what is begun and not whole.
-use Rattle.std.proofs.Common.{◌≡◌, ℕ, List, [], ◌∷◌, ◌++◌, length, None, Some, refl, ap, ◌∙◌}
-use Rattle.std.specs.List.{list_all}
-use Rattle.std.proofs.lemmas.Bool.{and_parts}
-use Rattle.std.proofs.lemmas.List.{append_assoc}
+use Rattle.mathprog_data.proofs.Common.{◌≡◌, ℕ, List, [], ◌∷◌, ◌++◌, length, None, Some, refl, ap, ◌∙◌, list_all, and_parts, append_assoc, Kind, Span, Token, Pending, place_after, is_symbol_byte, SignToken, BareToken, IsWhole, sign_bytes, begun, opened, sign_taken, token_of, silent, run, and_then}
 use Rattle.mathprog_data.specs.declared.lexeme.Sign.{Sign as TheSign}
 use Rattle.mathprog_data.specs.declared.lexeme.Sign.TheVariants as signs
-use Rattle.mathprog_data.specs.declared.lexer.Kind.{Kind}
 use Rattle.mathprog_data.specs.declared.lexer.Kind.TheVariants.{Sign, Bare}
-use Rattle.mathprog_data.specs.declared.lexer.Span.{Span}
-use Rattle.mathprog_data.specs.declared.lexer.Seen.TheVariants.{Token}
-use Rattle.mathprog_data.specs.declared.lexer.pending.Pending.{Pending}
 use Rattle.mathprog_data.specs.declared.lexer.pending.Pending.TheVariants as pendings
-use Rattle.mathprog_data.specs.Places.{place_after}
-use Rattle.mathprog_data.specs.LexingBytes.{is_symbol_byte}
-use Rattle.mathprog_data.specs.LexingPieces.{SignToken, BareToken, IsWhole, sign_bytes}
-use Rattle.mathprog_data.specs.LexingMachine.{begun, opened, sign_taken, token_of, silent}
-use Rattle.mathprog_data.specs.LexingRuns.{run, and_then}
 use Rattle.mathprog_data.proofs.LexingSteps.{since, gap, follow, at_passed, at_begun, run_ended, run_gap}
 use Rattle.mathprog_data.proofs.LexingRunGaps.{GoesOn, through}
 

@@ -1,15 +1,7 @@
 -- What the lexer sees of a text from a state on, a byte or a run of bytes at a time.
-use Rattle.std.proofs.Common.{◌≡◌, ℕ, Bool, true, false, cond, ◌==◌, List, [], ◌∷◌, ◌++◌, length, Option, None, Some, refl, sym, ap, ◌∙◌}
-use Rattle.std.proofs.lemmas.Bool.{not-true}
-use Rattle.std.proofs.lemmas.List.{length-append}
-use Rattle.mathprog_data.specs.declared.blocks.Mark.{Mark}
-use Rattle.mathprog_data.specs.declared.lexer.pending.Pending.{Pending}
+use Rattle.mathprog_data.proofs.Common.{◌≡◌, ℕ, Bool, true, false, cond, ◌==◌, List, [], ◌∷◌, ◌++◌, length, Option, None, Some, refl, sym, ap, ◌∙◌, not-true, length-append, Mark, Pending, place_after, is_separator, is_symbol_byte, is_quote, stops, State, Step, continues, passed, begun, ended, settled, sign_of, sign_taken, Run, run, and_then}
 use Rattle.mathprog_data.specs.declared.lexer.pending.Pending.TheVariants as pendings
-use Rattle.mathprog_data.specs.Places.{place_after}
-use Rattle.mathprog_data.specs.LexingBytes.{is_separator, is_symbol_byte, is_quote, stops}
 use Rattle.mathprog_data.specs.declared.lexeme.Sign.{Sign as TheSign}
-use Rattle.mathprog_data.specs.LexingMachine.{State, Step, continues, passed, begun, ended, settled, sign_of, sign_taken}
-use Rattle.mathprog_data.specs.LexingRuns.{Run, run, and_then}
 use Rattle.mathprog_data.proofs.LexingPlaces.{place_after_byte}
 
 -- the state after these bytes, in which this is pending since a place

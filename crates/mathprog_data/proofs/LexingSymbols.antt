@@ -1,13 +1,6 @@
 -- Past all the bytes of bare symbols in front the lexer only goes on.
-use Rattle.std.proofs.Common.{◌≡◌, ℕ, suc, ◌+◌, Bool, true, false, cond, List, [], ◌∷◌, ◌++◌, drop, take, refl, sym, ap, ◌∙◌, append-nil, arith}
-use Rattle.std.specs.List.{prefix_len}
-use Rattle.std.proofs.lemmas.List.{append_assoc}
-use Rattle.mathprog_data.specs.declared.blocks.Mark.{Mark}
+use Rattle.mathprog_data.proofs.Common.{◌≡◌, ℕ, suc, ◌+◌, Bool, true, false, cond, List, [], ◌∷◌, ◌++◌, drop, take, refl, sym, ap, ◌∙◌, append-nil, arith, prefix_len, append_assoc, Mark, is_line_feed, place_after, is_symbol_byte, State, passed, symbols_passed, next_mark, run}
 use Rattle.mathprog_data.specs.declared.lexer.pending.Pending.TheVariants as pendings
-use Rattle.mathprog_data.specs.Places.{is_line_feed, place_after}
-use Rattle.mathprog_data.specs.LexingBytes.{is_symbol_byte}
-use Rattle.mathprog_data.specs.LexingMachine.{State, passed, symbols_passed, next_mark}
-use Rattle.mathprog_data.specs.LexingRuns.{run}
 use Rattle.mathprog_data.proofs.LexingByteLemmas.{symbol_is_no_line_feed}
 use Rattle.mathprog_data.proofs.LexingPlaces.{place_after_byte}
 use Rattle.mathprog_data.proofs.LexingQuiet.{run_symbol}

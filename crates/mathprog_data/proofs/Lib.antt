@@ -1,3 +1,4 @@
+mod Common
 pub mod CellSteps
 pub mod CouldStand
 pub mod Drafts
@@ -33,7 +34,6 @@ pub mod PieceLemmas
 pub mod PieceSteps
 pub mod ReadingLaws
 pub mod ReadingLemmas
-pub mod RoundedCounts
 pub mod RunLaws
 pub mod SaneSound
 pub mod SectionMeans

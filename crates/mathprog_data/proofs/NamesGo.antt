@@ -1,27 +1,14 @@
 -- What may follow so that a statement begins, through its name, before these tokens.
-use Rattle.std.proofs.Common.{◌≡◌, ℕ, zero, suc, nat_eq, cond, Bool, true, false, List, [], ◌∷◌, ◌++◌, codes, Option, Some, None, refl, subst}
+use Rattle.mathprog_data.proofs.Common.{◌≡◌, ℕ, zero, suc, nat_eq, cond, Bool, true, false, List, [], ◌∷◌, ◌++◌, codes, Option, Some, None, refl, subst, Mark, Word, wrong_slice, Placed, Seen, SignSeen, SymbolSeen, Open, Fresh, DataRead, Between, EndRead, Ended, SetRead, InSet, ParamRead, ParamNamed, DefaultRead, LeadingDefault, LeadingNumber, TabbingColon, TabbingNamed, InRecords, InPlain, PlaceDue, PlaceRead, ParenRead, TrRead, TrClosed, InColumns, InRows, InRow, Event, Begins, DefaultGiven, ValueGiven, Turn, Stop, Go, Emit, turn, set_name, param_name, tabbing_name, comma, records, number, plain, bracket, table, columns_end, cell, row_left, Opening, Statements, set_number, param_number, subscript_count, results_path, Slice, free_count, all_free, index_at, Form, Listed, Tabbing, Begun, SetBegun, ParamBegun, TabbingBegun, Beginning, Default, Statement, given, cell_index, Name, Number, IsSign, IsKeyword, IsSymbol, IsNumberToken}
 use Rattle.std.specs.Prelude.{pos, if◌then◌else◌}
 use Rattle.mathprog_data.proofs.SectionsSound.{sound, not_default}
 use Rattle.mathprog_data.proofs.StatementsGo.{StepsBack, after, Goes, fresh, cut_set, cut_param, cut_tabbing}
 use Rattle.mathprog_data.proofs.TokensSeen.{seen, seen-symbol, sign-seen}
 use Rattle.mathprog_data.proofs.Walks.{Takes, done, go, emit, statements_events}
 use Rattle.mathprog_data.proofs.WalkLaws.{Walks, reached}
-use Rattle.mathprog_data.specs.declared.blocks.Mark.{Mark}
 use Rattle.mathprog_data.specs.declared.lexeme.Sign.TheVariants as signs
-use Rattle.mathprog_data.specs.declared.words.Word.{Word}
 use Rattle.mathprog_data.specs.declared.words.Word.TheVariants as words
-use Rattle.mathprog_data.specs.Faults.{wrong_slice}
-use Rattle.mathprog_data.specs.Lexemes.{Placed}
-use Rattle.mathprog_data.specs.MachineStates.{Seen, SignSeen, SymbolSeen, Open, Fresh, DataRead, Between, EndRead, Ended, SetRead, InSet, ParamRead, ParamNamed, DefaultRead, LeadingDefault, LeadingNumber, TabbingColon, TabbingNamed, InRecords, InPlain, PlaceDue, PlaceRead, ParenRead, TrRead, TrClosed, InColumns, InRows, InRow, Event, Begins, DefaultGiven, ValueGiven, Turn, Stop, Go, Emit}
-use Rattle.mathprog_data.specs.MachineSteps.{turn, set_name, param_name, tabbing_name, comma, records, number, plain, bracket, table, columns_end, cell, row_left}
-use Rattle.mathprog_data.specs.Meaning.{Opening, Statements}
-use Rattle.model_sets.specs.Names.{set_number}
-use Rattle.model_sets.specs.Params.{param_number, subscript_count, results_path}
-use Rattle.mathprog_data.specs.Slices.{Slice, free_count, all_free, index_at}
-use Rattle.mathprog_data.specs.Statements.{Form, Listed, Tabbing, Begun, SetBegun, ParamBegun, TabbingBegun, Beginning, Default, Statement}
 use Rattle.mathprog_data.specs.Statements as trees
-use Rattle.mathprog_data.specs.Tables.{given, cell_index}
-use Rattle.mathprog_data.specs.Symbols.{Name, Number, IsSign, IsKeyword, IsSymbol, IsNumberToken}
 use Rattle.mathprog_data.proofs.OptionalCommas.{OptionalComma, none, one, comma_of}
 
 -- the name after the colon of tabbing data, before ws

@@ -1,18 +1,11 @@
 -- No name begins a second statement in a list, exactly where none of the machine's events does.
-use Rattle.std.proofs.Common.{◌≡◌, ℕ, Bool, true, false, not, ◌&&◌, List, [], ◌∷◌, ◌++◌, Option, Some, None, sym, refl, ap, ap₂, ◌∙◌, subst}
+use Rattle.mathprog_data.proofs.Common.{◌≡◌, ℕ, Bool, true, false, not, ◌&&◌, List, [], ◌∷◌, ◌++◌, Option, Some, None, sym, refl, ap, ap₂, ◌∙◌, subst, Placed, Open, Fresh, Between, Event, Begins, MemberNamed, DefaultGiven, ValueGiven, SetClosed, ParamClosed, Draft, empty_draft, noted, is_second, NoNameTwice, Form, Listed, Tabbing, Begun, SetBegun, ParamBegun, TabbingBegun, Statement, Set, Param, Name, Number, Given}
 use Rattle.mathprog_data.proofs.Drafts.{second-named}
 use Rattle.mathprog_data.proofs.NamesGo.{BeginsAfter, name-begins}
 use Rattle.mathprog_data.proofs.RunLaws.{noted_all, are_new, are_new-append, first_true, second_true}
 use Rattle.mathprog_data.proofs.SectionsTaken.{begun_open, take_beginning, take_statements, take_opening, FreshToo}
 use Rattle.mathprog_data.proofs.WalkLaws.{Reached, Walks, Picked, picked, longer}
 use Rattle.mathprog_data.proofs.Walks.{done, Rests, rests, member_events, given_events, default_events, param_events, statement_events, statements_events}
-use Rattle.mathprog_data.specs.Lexemes.{Placed}
-use Rattle.mathprog_data.specs.MachineStates.{Open, Fresh, Between, Event, Begins, MemberNamed, DefaultGiven, ValueGiven, SetClosed, ParamClosed, Draft, empty_draft, noted}
-use Rattle.mathprog_data.specs.MachineSteps.{is_second}
-use Rattle.mathprog_data.specs.Meaning.{NoNameTwice}
-use Rattle.mathprog_data.specs.Statements.{Form, Listed, Tabbing, Begun, SetBegun, ParamBegun, TabbingBegun, Statement, Set, Param}
-use Rattle.mathprog_data.specs.Symbols.{Name, Number}
-use Rattle.mathprog_data.specs.Tables.{Given}
 
 -- ---- no name twice: no second event
 -- wherever an event is picked, it isn't that of a second statement

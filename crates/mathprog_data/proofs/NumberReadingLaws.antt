@@ -1,17 +1,11 @@
 -- Going through a text finds the number that it spells.
-use Rattle.std.proofs.Common.{◌≡◌, ℕ, ◌+◌, ◌<◌, Bool, true, false, cond, eqb, List, [], ◌∷◌, ◌++◌, length, Option, Some, None, Result, Ok, Err, sym, refl, ap, ap₂, ◌∙◌, subst, arith}
+use Rattle.mathprog_data.proofs.Common.{◌≡◌, ℕ, ◌+◌, ◌<◌, Bool, true, false, cond, eqb, List, [], ◌∷◌, ◌++◌, length, Option, Some, None, Result, Ok, Err, sym, refl, ap, ap₂, ◌∙◌, subst, arith, all_ascii_digits, eqb-true, IsNumeral, digits_in_front, after_digits, power_at, has_digits, with_power, number_text, accepted, read_parts, reading, Number}
 use Rattle.std.specs.Prelude.{◌&&◌, ◌||◌, nat_lt}
-use Rattle.std.specs.Str.{all_ascii_digits}
-use Rattle.std.proofs.lemmas.Bool.{eqb-true}
 use Rattle.std.proofs.lemmas.Bool.Decides.{nat_tests}
 use Rattle.scaled_decimals.specs.DecimalReading.{Reads, decimal_of}
-use Rattle.scaled_decimals.specs.Digits.{IsNumeral}
 use Rattle.scaled_decimals.specs.NumberText.{Sign, NumberText, Exponent, IsExponent, Spells, exponent_bytes, sign_bytes, mark}
-use Rattle.scaled_decimals.specs.PartsReading.{digits_in_front, after_digits}
 use Rattle.scaled_decimals.specs.declared.reading.DecFault.{DecFault}
 use Rattle.scaled_decimals.proofs.TextLemmas.{IsCut-of, Spells-at, one_way, number_at, after_sign, sign_of, places_in_front, after_places, after_sign-of, sign_of-bytes, IsUnsigned-numeral, sign-bytes}
-use Rattle.mathprog_data.specs.NumberReading.{power_at, has_digits, with_power, number_text, accepted, read_parts, reading}
-use Rattle.mathprog_data.specs.Symbols.{Number}
 
 -- ---- powers of ten
 abbrev exponent_with : Bool → Sign → List ℕ → Exponent

@@ -1,8 +1,6 @@
 -- A comma where the state of the machine allows one.
-use Rattle.std.proofs.Common.{Bool, true, List, ◌∷◌}
+use Rattle.mathprog_data.proofs.Common.{Bool, true, List, ◌∷◌, Placed, IsSign, Comma}
 use Rattle.mathprog_data.specs.declared.lexeme.Sign.TheVariants as signs
-use Rattle.mathprog_data.specs.Lexemes.{Placed}
-use Rattle.mathprog_data.specs.Symbols.{IsSign, Comma}
 use Rattle.mathprog_data.specs.Symbols as symbols
 
 -- a comma or none where one is allowed, and none elsewhere; the second list follows it

@@ -1,17 +1,7 @@
 -- What a reader of pieces stands for, computed on examples, with near misses.
-use Rattle.std.proofs.Common.{◌≡◌, ℕ, ◌+◌, true, [], ◌∷◌, None, refl, ap, arith, lit<}
+use Rattle.mathprog_data.proofs.Common.{◌≡◌, ℕ, ◌+◌, true, [], ◌∷◌, None, refl, ap, arith, lit<, Mark, Free, Inside, Pending, bad_byte, end_too_soon, State, run, InSet, empty_draft, reader, beginning, Going, Settled, IsKnownOf, StandsFor, Reads, Refuses}
 use Rattle.std.specs.Prelude.{codes}
-use Rattle.mathprog_data.specs.declared.blocks.Mark.{Mark}
-use Rattle.mathprog_data.specs.declared.closing.Closing.TheVariants.{Free, Inside}
-use Rattle.mathprog_data.specs.declared.lexer.pending.Pending.{Pending}
 use Rattle.mathprog_data.specs.declared.lexer.pending.Pending.TheVariants as pendings
-use Rattle.mathprog_data.specs.Faults.{bad_byte, end_too_soon}
-use Rattle.mathprog_data.specs.LexingMachine.{State}
-use Rattle.mathprog_data.specs.LexingRuns.{run}
-use Rattle.mathprog_data.specs.MachineStates.{InSet, empty_draft}
-use Rattle.mathprog_data.specs.MachineSteps.{reader, beginning}
-use Rattle.mathprog_data.specs.Pieces.{Going, Settled, IsKnownOf, StandsFor}
-use Rattle.mathprog_data.specs.ReadingRuns.{Reads, Refuses}
 
 abbrev mark : ℕ → ℕ → Mark
 mark line column = record { line = line; column = column }

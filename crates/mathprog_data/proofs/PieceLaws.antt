@@ -1,24 +1,10 @@
 -- What a reader stands for, from one piece of the text to the next.
-use Rattle.std.proofs.Common.{◌≡◌, ℕ, ◌+◌, ◌-◌, ◌<◌, ◌≤◌, List, [], ◌++◌, length, take, drop, slice_range, Option, None, Some, refl, sym, ap, ap₂, subst, ◌∙◌, arith, append_assoc, append-nil, length-append, length-drop}
-use Rattle.std.proofs.lemmas.List.{take_at, drop_at, take-append-le, drop-append-le}
-use Rattle.std.specs.Prelude.{IfSome}
-use Rattle.mathprog_data.specs.declared.fault.DataFault.{DataFault}
-use Rattle.mathprog_data.specs.declared.fault.ReadFail.{ReadFail}
-use Rattle.mathprog_data.specs.declared.fault.ReadFail.TheVariants.{Fault, Memory}
-use Rattle.mathprog_data.specs.declared.closing.Closing.{Closing}
-use Rattle.mathprog_data.specs.declared.closing.Closing.TheVariants.{Free}
+use Rattle.std.proofs.Common.{◌≡◌, ℕ, ◌+◌, ◌-◌, ◌<◌, ◌≤◌, List, [], ◌++◌, length, take, drop, slice_range, Option, None, Some, refl, sym, ap, subst, ◌∙◌, arith, append_assoc, append-nil, length-append, length-drop}
+use Rattle.mathprog_data.proofs.Common.{take_at, drop_at, take-append-le, drop-append-le, IfSome, DataFault, ReadFail, Fault, Memory, Closing, State, GoesOn, token_from, run, lexed_run, Reader, standing_of, Going, Settled, IsKnownOf, place_after, Outcome, Refuses, outcome_from, outcome_of}
 use Rattle.mathprog_data.specs.declared.pieces.Stage.TheVariants as stages
 use Rattle.mathprog_data.specs.declared.span_reader.SpanReader.{SpanReader}
 use Rattle.mathprog_data.specs.declared.span_reader.TextPiece.{TextPiece}
-use Rattle.mathprog_data.specs.LexingMachine.{State, GoesOn, token_from, first}
-use Rattle.mathprog_data.specs.LexingRuns.{run, lexed_run}
-use Rattle.mathprog_data.specs.MachineStates.{Reader}
-use Rattle.mathprog_data.specs.MachineSteps.{beginning}
 use Rattle.mathprog_data.specs.PieceRuns.{IsKept, AreKept, IsShown}
-use Rattle.mathprog_data.specs.PieceStages.{standing_of}
-use Rattle.mathprog_data.specs.Pieces.{Going, Settled, IsKnownOf}
-use Rattle.mathprog_data.specs.Places.{place_after}
-use Rattle.mathprog_data.specs.ReadingRuns.{Outcome, Refuses, outcome_from, outcome_of}
 use Rattle.mathprog_data.proofs.PieceLemmas.{earlier_on}
 
 -- ---- what is kept, and what the piece shows
@@ -85,10 +71,6 @@ goes_on_from s = goes_on_at_once s (token_from s)
 
 -- ---- what a reader stands for
 
--- a new one stands for the empty text
-pub known_first : (closing : Closing) (r : Reader) (kept : List ℕ) → closing ≡ Free → r ≡ beginning → IsKnownOf (Going first closing r kept) []
-known_first closing r kept e f = (refl, refl, tt, λ rest. ap₂ (λ c q. outcome_from rest q (lexed_run rest c (run first rest))) e f)
-
 -- where the text goes on after the piece
 pub known_on : (text piece kept : List ℕ) (s : State) (closing : Closing) (r : Reader) → s.place ≡ length text + length piece → s.mark ≡ place_after (text ++ piece)
     → AreKept (text ++ piece) s.place kept (token_from s)
@@ -121,10 +103,3 @@ pub going_at_end : (text kept : List ℕ) (s : State) (closing : Closing) (r : R
     → outcome_from text r (lexed_run text closing (run s [])) ≡ outcome_of text
 going_at_end text kept s closing r known =
     subst (λ all. outcome_from all r (lexed_run all closing (run s [])) ≡ outcome_of all) (append-nil text) (known.3 [])
-
--- nothing is shown by no bytes, and nothing need be
-pub nothing_shown : (text kept : List ℕ) (piece : TextPiece) (began : Option ℕ) → piece.bytes.now ≡ [] → AreKept text piece.start kept began → IsShown text piece kept began
-nothing_shown text kept piece began none are =
-    let size : piece.start + 0 - piece.start ≡ 0 = omega arith in
-    let P : List ℕ → Type 0 = λ bytes. slice_range text piece.start (piece.start + length bytes) ≡ bytes in
-    (subst P (sym none) (ap (λ n. take n (drop piece.start text)) size), are)

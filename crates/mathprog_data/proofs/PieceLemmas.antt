@@ -1,13 +1,8 @@
 -- A token of the text from a piece of it, and from the bytes that were kept of it and the piece.
 use Rattle.std.proofs.Common.{◌≡◌, ℕ, ◌+◌, ◌-◌, ◌<◌, ◌≤◌, false, List, ◌++◌, length, take, drop, slice_range, Option, None, Some, refl, sym, ap, ap₂, subst, ◌∙◌, arith, take-add, drop-drop, length-append, take-take}
 use Rattle.std.specs.Prelude.{IfSome, OnOk, Result, Ok, Err, is_ok, cond}
-use Rattle.std.proofs.lemmas.List.{drop-take, length-take-le}
-use Rattle.mathprog_data.specs.declared.lexer.Kind.{Kind}
+use Rattle.mathprog_data.proofs.Common.{drop-take, length-take-le, Kind, Quoted, Bare, undoubled, least_span, lexeme_at, IfEarlier}
 use Rattle.mathprog_data.specs.declared.lexer.Kind.TheVariants as kinds
-use Rattle.mathprog_data.specs.Lexemes.{Quoted, Bare, undoubled}
-use Rattle.mathprog_data.specs.LexingMachine.{least_span}
-use Rattle.mathprog_data.specs.LexingRuns.{lexeme_at}
-use Rattle.mathprog_data.specs.PieceRuns.{IfEarlier}
 
 -- a slice of a slice
 slice_slice : (text : List ℕ) (a b i j : ℕ) → i ≤ j → a + j ≤ b → slice_range (slice_range text a b) i j ≡ slice_range text (a + i) (a + j)

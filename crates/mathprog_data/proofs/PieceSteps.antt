@@ -1,14 +1,7 @@
 -- Where the tokens begin that a byte makes whole and the token that is open after it.
-use Rattle.std.proofs.Common.{◌≡◌, ℕ, ◌<◌, ◌≤◌, Bool, true, false, cond, ◌==◌, Option, None, Some, refl, sym, subst, arith}
-use Rattle.std.specs.Prelude.{IfSome}
-use Rattle.mathprog_data.specs.declared.blocks.Mark.{Mark}
+use Rattle.mathprog_data.proofs.Common.{◌≡◌, ℕ, ◌<◌, ◌≤◌, Bool, true, false, cond, ◌==◌, Option, None, Some, refl, sym, subst, arith, IfSome, Mark, Pending, is_separator, is_symbol_byte, is_quote, State, Step, GoesOn, token_from, is_token, before, taken, taken_in, continues, ended, closed, opened, sign_taken, sign_of, silent, settled, begun, in_comment, after_star, IfEarlier, seen_from, is_line_feed}
 use Rattle.mathprog_data.specs.declared.lexeme.Sign.{Sign as TheSign}
-use Rattle.mathprog_data.specs.declared.lexer.pending.Pending.{Pending}
 use Rattle.mathprog_data.specs.declared.lexer.pending.Pending.TheVariants as pendings
-use Rattle.mathprog_data.specs.LexingBytes.{is_separator, is_symbol_byte, is_quote}
-use Rattle.mathprog_data.specs.LexingMachine.{State, Step, GoesOn, token_from, is_token, before, taken, taken_in, continues, ended, closed, opened, sign_taken, sign_of, silent, settled, begun, in_comment, after_star}
-use Rattle.mathprog_data.specs.PieceRuns.{IfEarlier, seen_from}
-use Rattle.mathprog_data.specs.Places.{is_line_feed}
 
 -- with this pending
 abbrev pending_in : State → Pending → State

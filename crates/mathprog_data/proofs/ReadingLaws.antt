@@ -1,17 +1,6 @@
 -- The answers of `read_blocks` by what is made of the text.
-use Rattle.std.proofs.Common.{◌≡◌, ℕ, List, Ok, Err, Result, sym, refl, ap, ◌∙◌}
-use Rattle.std.specs.Prelude.{IfOk, IfErr, MatchResult}
+use Rattle.mathprog_data.proofs.Common.{◌≡◌, ℕ, List, Ok, Err, Result, sym, refl, ap, ◌∙◌, IfOk, IfErr, MatchResult, Mark, DataFault, ReadFail, Fault, Memory, blocks_told, Blocks, Reads, Refuses, outcome_of, IsMemory, IsFaultOrMemory, Says, FaultAt, AreWellFormed}
 use Rattle.mathprog_data.specs.declared.blocks.Blocks.{Blocks as KeptBlocks}
-use Rattle.mathprog_data.specs.declared.blocks.Mark.{Mark}
-use Rattle.mathprog_data.specs.declared.fault.DataFault.{DataFault}
-use Rattle.mathprog_data.specs.declared.fault.ReadFail.{ReadFail}
-use Rattle.mathprog_data.specs.declared.fault.ReadFail.TheVariants.{Fault, Memory}
-use Rattle.mathprog_data.specs.BlocksView.{blocks_told}
-use Rattle.mathprog_data.specs.Meaning.{Blocks}
-use Rattle.mathprog_data.specs.ReadingRuns.{Reads, Refuses, outcome_of}
-use Rattle.mathprog_data.specs.TokenSlices.{IsMemory, IsFaultOrMemory}
-use Rattle.mathprog_data.specs.Verdicts.{Says, FaultAt}
-use Rattle.mathprog_data.specs.WellFormed.{AreWellFormed}
 use Rattle.mathprog_data.proofs.StatementLawsHold.{statement_laws}
 use Rattle.mathprog_data.proofs.VerdictLaws.{says_reads, fault_refuses}
 use Rattle.mathprog_data.proofs.WellFormedLaws.{Means-well_formed}

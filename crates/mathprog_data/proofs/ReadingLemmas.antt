@@ -1,13 +1,8 @@
 -- After `;` the section may end.
-use Rattle.std.proofs.Common.{◌≡◌, ℕ, zero, suc, Bool, true, false, cond, List, [], ◌∷◌, ◌++◌, Result, Ok, Err, refl, sym, ap, subst, ◌∙◌}
-use Rattle.mathprog_data.specs.declared.blocks.Mark.{Mark}
+use Rattle.mathprog_data.proofs.Common.{◌≡◌, ℕ, zero, suc, Bool, true, false, cond, List, [], ◌∷◌, ◌++◌, Result, Ok, Err, refl, sym, ap, subst, ◌∙◌, Mark, Lexeme, Sign, Bare, Quoted, Placed, is_semicolon, Open, Fresh, DataRead, Between, EndRead, Ended, SetRead, InSet, ParamRead, ParamNamed, DefaultRead, LeadingDefault, LeadingNumber, TabbingColon, TabbingNamed, InRecords, InPlain, PlaceDue, PlaceRead, ParenRead, TrRead, TrClosed, InColumns, InRows, InRow, Reader, Draft, Turn, Stop, Go, Emit, SignSeen, seen_of, Listed, Tabbing}
 use Rattle.mathprog_data.specs.declared.lexeme.Sign.TheVariants as signs
-use Rattle.mathprog_data.specs.Lexemes.{Lexeme, Sign, Bare, Quoted, Placed}
-use Rattle.mathprog_data.specs.Lexing.{is_semicolon}
 use Rattle.mathprog_data.specs.MachineRuns.{after, run}
-use Rattle.mathprog_data.specs.MachineStates.{Open, Fresh, DataRead, Between, EndRead, Ended, SetRead, InSet, ParamRead, ParamNamed, DefaultRead, LeadingDefault, LeadingNumber, TabbingColon, TabbingNamed, InRecords, InPlain, PlaceDue, PlaceRead, ParenRead, TrRead, TrClosed, InColumns, InRows, InRow, Reader, Draft, Turn, Stop, Go, Emit, SignSeen, seen_of}
 use Rattle.mathprog_data.specs.MachineSteps.{turn, taken, step, may_end, reader, is_second}
-use Rattle.mathprog_data.specs.Statements.{Listed, Tabbing}
 
 -- wherever the turn leads, this passes
 abbrev lands : (Open → Bool) → Turn → Bool

@@ -1,13 +1,9 @@
 -- The machine over a list: it goes through on a way whose names are new, and else stops at a token of it.
-use Rattle.std.proofs.Common.{◌≡◌, ℕ, Bool, true, false, cond, not, ◌&&◌, List, [], ◌∷◌, ◌++◌, Result, Ok, Err, refl, ap, ap₂, ◌∙◌, subst}
+use Rattle.mathprog_data.proofs.Common.{◌≡◌, ℕ, Bool, true, false, cond, not, ◌&&◌, List, [], ◌∷◌, ◌++◌, Result, Ok, Err, refl, ap, ap₂, ◌∙◌, subst, Mark, given_twice, Placed, Open, Event, Turn, Stop, Go, Emit, Draft, noted, Reader}
 use Rattle.mathprog_data.proofs.TokensSeen.{seen}
 use Rattle.mathprog_data.proofs.WalkLaws.{reached, Walks}
 use Rattle.mathprog_data.proofs.Walks.{done, go, emit}
-use Rattle.mathprog_data.specs.declared.blocks.Mark.{Mark}
-use Rattle.mathprog_data.specs.Faults.{given_twice}
-use Rattle.mathprog_data.specs.Lexemes.{Placed}
 use Rattle.mathprog_data.specs.MachineRuns.{Stopped, after, run}
-use Rattle.mathprog_data.specs.MachineStates.{Open, Event, Turn, Stop, Go, Emit, Draft, noted, Reader}
 use Rattle.mathprog_data.specs.MachineSteps.{turn, taken, step, is_second, reader}
 
 -- with these events
@@ -19,10 +15,6 @@ noted_all d (e ∷ es) = noted_all (noted d e) es
 abbrev pub are_new : Draft → List Event → Bool
 are_new d [] = true
 are_new d (e ∷ es) = not (is_second d e) && are_new (noted d e) es
-
-pub noted_all-append : (d : Draft) (es fs : List Event) → noted_all d (es ++ fs) ≡ noted_all (noted_all d es) fs
-noted_all-append d [] fs = refl
-noted_all-append d (e ∷ es) fs = noted_all-append (noted d e) es fs
 
 and_assoc : (x y z : Bool) → (x && (y && z)) ≡ ((x && y) && z)
 and_assoc true y z = refl

@@ -1,11 +1,7 @@
 -- A state whose parts fit one another is sound for the tests of faults.
-use Rattle.std.proofs.Common.{◌≡◌, ℕ, ◌≤◌, nat_eq, Bool, true, false, [], ◌∷◌, length, Some, None, refl, arith}
-use Rattle.std.proofs.lemmas.Bool.{eqb-true}
+use Rattle.mathprog_data.proofs.Common.{◌≡◌, ℕ, ◌≤◌, nat_eq, Bool, true, false, [], ◌∷◌, length, Some, None, refl, arith, eqb-true, Open, InRecords, InPlain, PlaceDue, PlaceRead, ParenRead, TrRead, TrClosed, InColumns, InRows, InRow, subscript_count, Slice, free_count}
 use Rattle.mathprog_data.proofs.FaultTables.{Sound}
 use Rattle.mathprog_data.proofs.TurnLaws.{IsSane, Tabled}
-use Rattle.mathprog_data.specs.MachineStates.{Open, InRecords, InPlain, PlaceDue, PlaceRead, ParenRead, TrRead, TrClosed, InColumns, InRows, InRow}
-use Rattle.model_sets.specs.Params.{subscript_count}
-use Rattle.mathprog_data.specs.Slices.{Slice, free_count}
 
 free-within : (slice : Slice) → free_count slice ≤ length slice
 free-within [] = omega arith

@@ -1,17 +1,12 @@
 -- A list that the machine takes to an end is loose.
-use Rattle.std.proofs.Common.{◌≡◌, true, List, [], ◌∷◌, codes, refl}
+use Rattle.mathprog_data.proofs.Common.{◌≡◌, true, List, [], ◌∷◌, codes, refl, Placed, Open, Fresh, Between, EndRead, Ended, Event, may_end, Statement, IsSign, IsKeyword}
 use Rattle.mathprog_data.proofs.SectionsSound.{sound}
 use Rattle.mathprog_data.proofs.SectionsTaken.{Finished, finished}
 use Rattle.mathprog_data.proofs.StatementsGo.{StepsBack, after, Goes, fresh, between, cut_ended}
 use Rattle.mathprog_data.proofs.Walks.{Takes, statements_events}
 use Rattle.mathprog_data.specs.declared.lexeme.Sign.TheVariants as signs
-use Rattle.mathprog_data.specs.Lexemes.{Placed}
-use Rattle.mathprog_data.specs.MachineStates.{Open, Fresh, Between, EndRead, Ended, Event}
-use Rattle.mathprog_data.specs.MachineSteps.{may_end}
 use Rattle.mathprog_data.specs.Meaning.{Opening, Statements, Closing, IsLoose}
 use Rattle.mathprog_data.specs.Meaning as sections
-use Rattle.mathprog_data.specs.Statements.{Statement}
-use Rattle.mathprog_data.specs.Symbols.{IsSign, IsKeyword}
 
 -- one semicolon
 data OneSemicolon : List Placed → Type 0 where

@@ -1,24 +1,15 @@
 -- A step backwards of the machine keeps what may follow: beginnings of statements, and the section as a whole.
-use Rattle.std.proofs.Common.{◌≡◌, ℕ, Bool, true, false, List, [], ◌∷◌, codes, Option, Some, None, sym, refl, ap, ◌∙◌, subst}
+use Rattle.mathprog_data.proofs.Common.{◌≡◌, ℕ, Bool, true, false, List, [], ◌∷◌, codes, Option, Some, None, sym, refl, ap, ◌∙◌, subst, Word, Placed, Seen, SignSeen, SymbolSeen, Open, Fresh, DataRead, Between, EndRead, Ended, SetRead, InSet, ParamRead, ParamNamed, DefaultRead, LeadingDefault, LeadingNumber, TabbingColon, TabbingNamed, InRecords, InPlain, PlaceDue, PlaceRead, ParenRead, TrRead, TrClosed, InColumns, InRows, InRow, Event, Begins, DefaultGiven, Turn, Stop, Go, Emit, Opening, Statements, set_number, subscript_count, param_number, all_free, Listed, Tabbing, Default, NoDefault, SetBegun, ParamBegun, TabbingBegun, Name, Number, IsSign, IsKeyword, IsSymbol, IsNumberToken}
 use Rattle.mathprog_data.proofs.StatementsGo.{StepsBack, After, after, set_rest, records_rest, named_rest, tabbed_rest, colon_rest, Goes, fresh, data_read, between, cut_end, cut_ended, set_read, cut_set, in_set, param_read, tabbing_read, cut_param, param_named, default_read, leading_default, cut_default, leading_number, cut_number, tabbing_colon, cut_tabbing, tabbing_named, in_records, Back, back}
 use Rattle.mathprog_data.proofs.StatementsSound.{back_in_set, back_in_plain, back_place_due, back_place_read}
 use Rattle.mathprog_data.proofs.TablesSound.{back_in_records, back_paren_read, back_tr_read, back_tr_closed, back_in_columns, back_in_rows, back_in_row}
 use Rattle.mathprog_data.proofs.TokensSeen.{seen, seen-sign, seen-symbol, seen-number, seen-keyword}
 use Rattle.mathprog_data.proofs.Walks.{Takes, done, go, emit}
 use Rattle.mathprog_data.specs.declared.lexeme.Sign.TheVariants as signs
-use Rattle.mathprog_data.specs.declared.words.Word.{Word}
 use Rattle.mathprog_data.specs.declared.words.Word.TheVariants as words
-use Rattle.mathprog_data.specs.Lexemes.{Placed}
-use Rattle.mathprog_data.specs.MachineStates.{Seen, SignSeen, SymbolSeen, Open, Fresh, DataRead, Between, EndRead, Ended, SetRead, InSet, ParamRead, ParamNamed, DefaultRead, LeadingDefault, LeadingNumber, TabbingColon, TabbingNamed, InRecords, InPlain, PlaceDue, PlaceRead, ParenRead, TrRead, TrClosed, InColumns, InRows, InRow, Event, Begins, DefaultGiven, Turn, Stop, Go, Emit}
 use Rattle.mathprog_data.specs.MachineSteps.{turn, comma, number, set_name, param_name, tabbing_name, records, in_records as records_turn, between as between_turn}
-use Rattle.mathprog_data.specs.Meaning.{Opening, Statements}
 use Rattle.mathprog_data.specs.Meaning as sections
-use Rattle.model_sets.specs.Names.{set_number}
-use Rattle.model_sets.specs.Params.{subscript_count, param_number}
-use Rattle.mathprog_data.specs.Slices.{all_free}
-use Rattle.mathprog_data.specs.Statements.{Listed, Tabbing, Default, NoDefault, SetBegun, ParamBegun, TabbingBegun}
 use Rattle.mathprog_data.specs.Statements as trees
-use Rattle.mathprog_data.specs.Symbols.{Name, Number, IsSign, IsKeyword, IsSymbol, IsNumberToken}
 use Rattle.mathprog_data.proofs.OptionalCommas.{none, one, comma_of}
 
 -- a sign or another word is not the keyword `default`

@@ -1,25 +1,14 @@
 -- The machine takes what a data section is spelt of, and does with it what its tree says.
-use Rattle.std.proofs.Common.{◌≡◌, ℕ, inl, inr, true, false, List, [], ◌∷◌, codes, Option, Some, refl, ap, ◌∙◌}
+use Rattle.mathprog_data.proofs.Common.{◌≡◌, ℕ, inl, inr, true, false, List, [], ◌∷◌, codes, Option, Some, refl, ap, ◌∙◌, Mark, Word, Placed, Lexeme, Seen, SignSeen, SymbolSeen, Open, Fresh, DataRead, Between, EndRead, Ended, SetRead, InSet, ParamRead, ParamNamed, DefaultRead, LeadingDefault, LeadingNumber, TabbingColon, TabbingNamed, InRecords, Event, Begins, ParamClosed, Go, Emit, turn, may_end, set_name, param_name, tabbing_name, set_number, subscript_count, param_number, Slice, all_free, Form, Listed, Tabbing, Records, NoDefault, Default, Begun, SetBegun, ParamBegun, TabbingBegun, Beginning, Statement, Set, Param, IsStatement, Name, Number, IsSign, IsKeyword, Given}
 use Rattle.mathprog_data.proofs.StatementsTaken.{take_members, take_plain, take_slice}
 use Rattle.mathprog_data.proofs.TablesTaken.{take_table}
 use Rattle.mathprog_data.proofs.TokensSeen.{seen, symbol-seen, number-seen, default-no_param, seen-keyword}
 use Rattle.mathprog_data.proofs.Walks.{Takes, done, go, emit, given_events, default_events, statement_events, statements_events, given_events-append, set, named, leading, tabbing, listed, rests, Rests, SameFirst, SameTurn, switch, sign_go, sign_emit, symbol_emit, take_comma}
-use Rattle.mathprog_data.specs.declared.blocks.Mark.{Mark}
 use Rattle.mathprog_data.specs.declared.lexeme.Sign.TheVariants as signs
-use Rattle.mathprog_data.specs.declared.words.Word.{Word}
 use Rattle.mathprog_data.specs.declared.words.Word.TheVariants as words
-use Rattle.mathprog_data.specs.Lexemes.{Placed, Lexeme}
-use Rattle.mathprog_data.specs.MachineStates.{Seen, SignSeen, SymbolSeen, Open, Fresh, DataRead, Between, EndRead, Ended, SetRead, InSet, ParamRead, ParamNamed, DefaultRead, LeadingDefault, LeadingNumber, TabbingColon, TabbingNamed, InRecords, Event, Begins, ParamClosed, Go, Emit}
-use Rattle.mathprog_data.specs.MachineSteps.{turn, may_end, set_name, param_name, tabbing_name}
 use Rattle.mathprog_data.specs.Meaning.{Opening, Statements, Closing, IsLoose}
 use Rattle.mathprog_data.specs.Meaning as sections
-use Rattle.model_sets.specs.Names.{set_number}
-use Rattle.model_sets.specs.Params.{subscript_count, param_number}
-use Rattle.mathprog_data.specs.Slices.{Slice, all_free}
-use Rattle.mathprog_data.specs.Statements.{Form, Listed, Tabbing, Records, NoDefault, Default, Begun, SetBegun, ParamBegun, TabbingBegun, Beginning, Statement, Set, Param, IsStatement}
 use Rattle.mathprog_data.specs.Statements as trees
-use Rattle.mathprog_data.specs.Symbols.{Name, Number, IsSign, IsKeyword}
-use Rattle.mathprog_data.specs.Tables.{Given}
 
 pub take_records : (F : Open → List Placed → Type 0) → Rests F → {param : ℕ} {form : Form} {slice : Slice} {ts rest : List Placed} {values : List Given} {events : List Event} → Records param form slice ts rest values → Takes F Between rest events
     → Takes F (InRecords form param slice false) ts (given_events values (ParamClosed param ∷ events))

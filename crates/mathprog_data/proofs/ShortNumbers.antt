@@ -1,15 +1,10 @@
 -- What a short decimal without a sign and a power of ten reads as.
-use Rattle.std.proofs.Common.{◌≡◌, ℕ, ◌+◌, ◌*◌, ◌<◌, ◌≤◌, ◌^◌, pos, true, false, List, [], ◌∷◌, ◌++◌, length, get_or, slice_range, Option, Some, None, sym, refl, ap, ap₂, ◌∙◌, subst, arith, append-nil, mul_assoc, mul-le-mul, eq-eqb}
+use Rattle.mathprog_data.proofs.Common.{◌≡◌, ℕ, ◌+◌, ◌*◌, ◌<◌, ◌≤◌, ◌^◌, pos, true, false, List, [], ◌∷◌, ◌++◌, length, get_or, slice_range, Option, Some, None, sym, refl, ap, ap₂, ◌∙◌, subst, arith, append-nil, mul_assoc, mul-le-mul, eq-eqb, mantissa, raised, lowered, AreDigits, number_of, continued, decimal_from, continued-zero, continued-append, ten_pos, reading}
 use Rattle.std.proofs.lemmas.Int.{ints}
 use Rattle.exact_num.specs.Range.{InRange}
-use Rattle.scaled_decimals.specs.DecimalReading.{mantissa, raised, lowered}
-use Rattle.scaled_decimals.specs.Digits.{AreDigits, number_of, continued}
 use Rattle.scaled_decimals.specs.NumberText.{NumberText, Bare, Spells, fraction_bytes, fraction_digits}
 use Rattle.scaled_decimals.specs.Rounding.{nearest}
-use Rattle.scaled_decimals.proofs.DecimalLemmas.{decimal_from}
-use Rattle.scaled_decimals.proofs.DigitLemmas.{continued-zero, continued-append, ten_pos}
 use Rattle.scaled_decimals.proofs.RatioLemmas.{nearest-whole, ratio_within}
-use Rattle.mathprog_data.specs.NumberReading.{reading}
 use Rattle.mathprog_data.proofs.NumberReadingLaws.{Reads-reading}
 use Rattle.mathprog_data.proofs.TokenRunLemmas.{rest_of}
 

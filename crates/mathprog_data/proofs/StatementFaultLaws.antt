@@ -1,21 +1,11 @@
 -- The kinds of faults of a token, by the tests of the state after the tokens before it.
-use Rattle.std.proofs.Common.{◌≡◌, ℕ, ◌⊎◌, inl, inr, Bool, true, false, not, ◌&&◌, ◌||◌, List, [], ◌∷◌, ◌++◌, codes, Option, Some, None, sym, refl, ap, ap₂, ◌∙◌}
-use Rattle.std.specs.Option.{is_none}
+use Rattle.mathprog_data.proofs.Common.{◌≡◌, ℕ, ◌⊎◌, inl, inr, Bool, true, false, not, ◌&&◌, ◌||◌, List, [], ◌∷◌, ◌++◌, codes, Option, Some, None, sym, refl, ap, ap₂, ◌∙◌, is_none, Mark, Lexeme, Sign, Bare, Placed, Seen, SignSeen, EmptySeen, SymbolSeen, Open, Fresh, Event, Turn, Stop, Go, Emit, seen_of, turn, set_number, param_number, BeginsLoose, CouldStand, LacksSubscripts, IsUnknownName, IsWrongSlice, IsRowTooShort, IsBadNumber, IsTabbing, IsSign, EndsTable}
 use Rattle.mathprog_data.proofs.CouldStand.{zero-seen, x-seen, point-seen, set-seen, param-seen, GoesOn, by_go, by_emit, could-on, on-could, two-on, on-two}
 use Rattle.mathprog_data.proofs.FaultTests.{on, star_after, zero_seen, x_seen, point_seen, set_seen, param_seen, lacks, unknown_test, bare_record, wrong_test, cell_due, short_test, bad_test, gives_due, tabbing_test}
 use Rattle.mathprog_data.proofs.TokensSeen.{seen, sign-seen, seen-sign, symbol-seen, seen-symbol}
 use Rattle.mathprog_data.proofs.WalkLaws.{Walks}
-use Rattle.mathprog_data.specs.declared.blocks.Mark.{Mark}
 use Rattle.mathprog_data.specs.declared.lexeme.Sign.TheVariants as signs
-use Rattle.mathprog_data.specs.Lexemes.{Lexeme, Sign, Bare, Placed}
-use Rattle.mathprog_data.specs.MachineStates.{Seen, SignSeen, EmptySeen, SymbolSeen, Open, Fresh, Event, Turn, Stop, Go, Emit, seen_of}
-use Rattle.mathprog_data.specs.MachineSteps.{turn}
-use Rattle.model_sets.specs.Names.{set_number}
-use Rattle.model_sets.specs.Params.{param_number}
-use Rattle.mathprog_data.specs.StatementFaults.{BeginsLoose, CouldStand, LacksSubscripts, IsUnknownName, IsWrongSlice, IsRowTooShort, IsBadNumber, IsTabbing}
 use Rattle.mathprog_data.specs.StatementFaults as faults
-use Rattle.mathprog_data.specs.Symbols.{IsSign}
-use Rattle.mathprog_data.specs.Tables.{EndsTable}
 use Rattle.mathprog_data.specs.Tables as tables
 
 -- ---- tests

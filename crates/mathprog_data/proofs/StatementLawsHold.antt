@@ -1,9 +1,8 @@
 -- The laws of the reader of statements hold: what it makes of a list of tokens is what the list is.
-use Rattle.std.proofs.Common.{sym, refl}
+use Rattle.mathprog_data.proofs.Common.{sym, refl, drafted}
 use Rattle.mathprog_data.proofs.GoodLists.{good-goes, goes-good, means-ends, ends-means}
 use Rattle.mathprog_data.proofs.VerdictLaws.{StatementLaws}
 use Rattle.mathprog_data.proofs.Verdicts.{stopped-fault, fault-stopped}
-use Rattle.mathprog_data.specs.MachineStates.{drafted}
 
 pub statement_laws : StatementLaws
 statement_laws = record {

@@ -1,17 +1,7 @@
 -- What may follow in each state of the machine, so that the whole is spelt as trees say: the rest of the open statement, and statements.
-use Rattle.std.proofs.Common.{◌≡◌, ℕ, zero, suc, Bool, true, false, List, [], ◌∷◌, ◌++◌, codes, Option, Some, None}
+use Rattle.mathprog_data.proofs.Common.{◌≡◌, ℕ, zero, suc, Bool, true, false, List, [], ◌∷◌, ◌++◌, codes, Option, Some, None, Mark, Placed, Open, Fresh, DataRead, Between, EndRead, Ended, SetRead, InSet, ParamRead, ParamNamed, DefaultRead, LeadingDefault, LeadingNumber, TabbingColon, TabbingNamed, InRecords, InPlain, PlaceDue, PlaceRead, ParenRead, TrRead, TrClosed, InColumns, InRows, InRow, Event, Begins, DefaultGiven, ValueGiven, SetClosed, ParamClosed, Turn, Stop, Go, Emit, Opening, Statements, set_number, subscript_count, param_number, Slice, all_free, index_at, Places, Form, Listed, Tabbing, Members, Subscripts, Records, Default, SetBegun, ParamBegun, TabbingBegun, Statement, Name, Number, IsSign, IsKeyword, IsSymbol, IsNumberToken, IsValue, Comma, Given, given, Columns, Cells, Rows, EndsTable}
 use Rattle.mathprog_data.proofs.Walks.{member_events, given_events, default_events, statements_events}
-use Rattle.mathprog_data.specs.declared.blocks.Mark.{Mark}
 use Rattle.mathprog_data.specs.declared.lexeme.Sign.TheVariants as signs
-use Rattle.mathprog_data.specs.Lexemes.{Placed}
-use Rattle.mathprog_data.specs.MachineStates.{Open, Fresh, DataRead, Between, EndRead, Ended, SetRead, InSet, ParamRead, ParamNamed, DefaultRead, LeadingDefault, LeadingNumber, TabbingColon, TabbingNamed, InRecords, InPlain, PlaceDue, PlaceRead, ParenRead, TrRead, TrClosed, InColumns, InRows, InRow, Event, Begins, DefaultGiven, ValueGiven, SetClosed, ParamClosed, Turn, Stop, Go, Emit}
-use Rattle.mathprog_data.specs.Meaning.{Opening, Statements}
-use Rattle.model_sets.specs.Names.{set_number}
-use Rattle.model_sets.specs.Params.{subscript_count, param_number}
-use Rattle.mathprog_data.specs.Slices.{Slice, all_free, index_at, Places}
-use Rattle.mathprog_data.specs.Statements.{Form, Listed, Tabbing, Members, Subscripts, Records, Default, SetBegun, ParamBegun, TabbingBegun, Statement}
-use Rattle.mathprog_data.specs.Symbols.{Name, Number, IsSign, IsKeyword, IsSymbol, IsNumberToken, IsValue, Comma}
-use Rattle.mathprog_data.specs.Tables.{Given, given, Columns, Cells, Rows, EndsTable}
 use Rattle.mathprog_data.proofs.OptionalCommas.{OptionalComma}
 
 -- what may be left open, in which state: K says what must follow there. It is kept by a step backwards

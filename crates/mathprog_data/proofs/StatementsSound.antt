@@ -3,21 +3,12 @@ use Rattle.std.proofs.Common.{◌≡◌, ℕ, zero, suc, Bool, true, false, cond
 use Rattle.std.specs.Prelude.{pos}
 use Rattle.mathprog_data.proofs.StatementsGo.{set_rest, RecordsRest, records_rest, Goes, between, in_set, in_records, in_plain, place_due, place_last, place_more, Back, back}
 use Rattle.mathprog_data.proofs.TokensSeen.{seen, seen-sign, seen-symbol, seen-number}
-use Rattle.mathprog_data.specs.declared.blocks.Mark.{Mark}
+use Rattle.mathprog_data.proofs.Common.{Mark, Word, Placed, Seen, SignSeen, SymbolSeen, Open, Between, InSet, InRecords, InPlain, PlaceDue, PlaceRead, Event, MemberNamed, ValueGiven, SetClosed, ParamClosed, Emit, turn, comma, bracket, number, subscript_count, results_path, Slice, free_count, index_at, Places, IsPlace, Form, Listed, Tabbing, Subscripts, Name, Number, IsSign, IsSymbol, IsValue, Comma, given}
 use Rattle.mathprog_data.specs.declared.lexeme.Sign.TheVariants as signs
-use Rattle.mathprog_data.specs.declared.words.Word.{Word}
-use Rattle.mathprog_data.specs.Lexemes.{Placed}
-use Rattle.mathprog_data.specs.MachineStates.{Seen, SignSeen, SymbolSeen, Open, Between, InSet, InRecords, InPlain, PlaceDue, PlaceRead, Event, MemberNamed, ValueGiven, SetClosed, ParamClosed, Emit}
-use Rattle.mathprog_data.specs.MachineSteps.{turn, comma, bracket, number}
 use Rattle.mathprog_data.specs.MachineSteps.{plain as plain_turn}
-use Rattle.model_sets.specs.Params.{subscript_count, results_path}
-use Rattle.mathprog_data.specs.Slices.{Slice, free_count, index_at, Places, IsPlace}
 use Rattle.mathprog_data.specs.Slices as slices
-use Rattle.mathprog_data.specs.Statements.{Form, Listed, Tabbing, Subscripts}
 use Rattle.mathprog_data.specs.Statements as trees
-use Rattle.mathprog_data.specs.Symbols.{Name, Number, IsSign, IsSymbol, IsValue, Comma}
 use Rattle.mathprog_data.specs.Symbols as symbols
-use Rattle.mathprog_data.specs.Tables.{given}
 use Rattle.mathprog_data.proofs.OptionalCommas.{none, one, comma_of}
 
 -- ---- sets

@@ -3,21 +3,12 @@ use Rattle.std.proofs.Common.{◌≡◌, ℕ, zero, suc, Bool, true, false, cond
 use Rattle.std.specs.Prelude.{pos}
 use Rattle.mathprog_data.proofs.TokensSeen.{seen, symbol-seen, number-seen}
 use Rattle.mathprog_data.proofs.Walks.{Takes, emit, member_events, Loosened, set, listed, tabbed, plain, Rests, sign_go, sign_emit, symbol_go, symbol_emit, take_comma}
-use Rattle.mathprog_data.specs.declared.blocks.Mark.{Mark}
+use Rattle.mathprog_data.proofs.Common.{Mark, Word, Placed, SignSeen, SymbolSeen, Open, Between, InSet, InRecords, InPlain, PlaceDue, PlaceRead, Event, ValueGiven, SetClosed, Turn, Emit, turn, bracket, plain_value, number, subscript_count, results_path, Slice, free_count, index_at, Places, IsPlace, Form, Listed, Tabbing, Members, Subscripts, Plain, Name, Number, IsSign, IsValue, Comma, Given, given}
 use Rattle.mathprog_data.specs.declared.lexeme.Sign.TheVariants as signs
-use Rattle.mathprog_data.specs.declared.words.Word.{Word}
-use Rattle.mathprog_data.specs.Lexemes.{Placed}
-use Rattle.mathprog_data.specs.MachineStates.{SignSeen, SymbolSeen, Open, Between, InSet, InRecords, InPlain, PlaceDue, PlaceRead, Event, ValueGiven, SetClosed, Turn, Emit}
-use Rattle.mathprog_data.specs.MachineSteps.{turn, bracket, plain_value, number}
 use Rattle.mathprog_data.specs.MachineSteps.{plain as plain_turn}
-use Rattle.model_sets.specs.Params.{subscript_count, results_path}
-use Rattle.mathprog_data.specs.Slices.{Slice, free_count, index_at, Places, IsPlace}
 use Rattle.mathprog_data.specs.Slices as slices
-use Rattle.mathprog_data.specs.Statements.{Form, Listed, Tabbing, Members, Subscripts, Plain, Records}
 use Rattle.mathprog_data.specs.Statements as trees
-use Rattle.mathprog_data.specs.Symbols.{Name, Number, IsSign, IsSymbol, IsNumberToken, IsValue, Comma}
 use Rattle.mathprog_data.specs.Symbols as symbols
-use Rattle.mathprog_data.specs.Tables.{Given, given}
 
 -- ---- sets
 pub take_members : (F : Open → List Placed → Type 0) → Rests F → (n : ℕ) {ts rest : List Placed} {names : List Name} {events : List Event} → Members ts rest names → Takes F Between rest events → Takes F (InSet n false) ts (member_events names (SetClosed n ∷ events))
@@ -37,10 +28,6 @@ value-seen {t = t} {v = v} (symbols.IsValue.numeric not_path is) =
 value-seen {t = t} (symbols.IsValue.any_symbol name path is) =
     let s = symbol-seen t name is in
     (s.0, name, s.1, s.2, ap (λ b. cond b (Some (pos 0, false)) s.1) path)
-
--- the state after a value
-abbrev after_value : Form → ℕ → Slice → Open
-after_value form param slice = InRecords form param slice true
 
 take_value : (F : Open → List Placed → Type 0) (o : Open) (form : Form) {param : ℕ} (slice : Slice) (names : List Name) (mark : Mark) {t : Placed} {v : Number} {ts : List Placed} {events : List Event} → IsValue param t v
     → ((w : Word) (name : Name) (n : Option Number) → turn o (SymbolSeen w name n) t.at ≡ plain_value form param slice names mark n)

@@ -1,9 +1,6 @@
 -- What symbols say and name, byte by byte.
-use Rattle.std.proofs.Common.{◌≡◌, ℕ, ◌<◌, Bool, true, false, cond, eqb, List, [], ◌∷◌, length, get_or, None, refl, arith}
+use Rattle.mathprog_data.proofs.Common.{◌≡◌, ℕ, ◌<◌, Bool, true, false, cond, eqb, List, [], ◌∷◌, length, get_or, None, refl, arith, Other, Quoted, undoubled, SymbolSeen, seen_of}
 use Rattle.std.specs.Prelude.{◌&&◌}
-use Rattle.mathprog_data.specs.declared.words.Word.TheVariants.{Other}
-use Rattle.mathprog_data.specs.Lexemes.{Quoted, undoubled}
-use Rattle.mathprog_data.specs.MachineStates.{SymbolSeen, seen_of}
 
 -- some bytes
 abbrev pub IsSome : List ℕ → Type 0

@@ -1,24 +1,15 @@
 -- A step backwards of the machine keeps what may follow: tables, and records as a whole.
 use Rattle.std.proofs.Common.{◌≡◌, ℕ, Bool, true, false, cond, List, [], ◌∷◌, ◌++◌, Option, Some, None, nat_eq, refl, subst, append_assoc}
-use Rattle.std.proofs.lemmas.Bool.{eqb-true}
+use Rattle.mathprog_data.proofs.Common.{eqb-true, Mark, Word, Placed, Seen, SignSeen, SymbolSeen, Open, InRecords, ParenRead, TrRead, TrClosed, InColumns, InRows, InRow, Event, ValueGiven, ParamClosed, Turn, Stop, Go, Emit, subscript_count, Slice, free_count, Form, Listed, Tabbing, Name, Number, IsSign, IsSymbol, IsNumberToken, Comma, Given, given, Heading, Columns, Cells, Rows, EndsTable, cell_index}
 use Rattle.mathprog_data.proofs.StatementsGo.{records_rest, RowsRest, rows_rest, ColumnsRest, columns_end, columns_more, Goes, in_records, paren_read, tr_read, tr_closed, in_columns, in_rows, in_row, Back, back}
 use Rattle.mathprog_data.proofs.StatementsSound.{records_semicolon, records_comma, records_gives, records_bracket, records_symbol}
 use Rattle.mathprog_data.proofs.TokensSeen.{seen, seen-sign, seen-symbol, seen-number, seen-keyword}
 use Rattle.mathprog_data.proofs.Walks.{given_events, given_events-append}
-use Rattle.mathprog_data.specs.declared.blocks.Mark.{Mark}
 use Rattle.mathprog_data.specs.declared.lexeme.Sign.TheVariants as signs
-use Rattle.mathprog_data.specs.declared.words.Word.{Word}
 use Rattle.mathprog_data.specs.declared.words.Word.TheVariants as words
-use Rattle.mathprog_data.specs.Lexemes.{Placed}
-use Rattle.mathprog_data.specs.MachineStates.{Seen, SignSeen, SymbolSeen, Open, InRecords, ParenRead, TrRead, TrClosed, InColumns, InRows, InRow, Event, ValueGiven, ParamClosed, Turn, Stop, Go, Emit}
 use Rattle.mathprog_data.specs.MachineSteps.{turn, comma, row_left, cell, number, in_records as records_turn}
 use Rattle.mathprog_data.specs.MachineSteps.{columns_end as end_turn}
-use Rattle.model_sets.specs.Params.{subscript_count}
-use Rattle.mathprog_data.specs.Slices.{Slice, free_count}
-use Rattle.mathprog_data.specs.Statements.{Form, Listed, Tabbing}
 use Rattle.mathprog_data.specs.Statements as statements
-use Rattle.mathprog_data.specs.Symbols.{Name, Number, IsSign, IsSymbol, IsNumberToken, Comma}
-use Rattle.mathprog_data.specs.Tables.{Given, given, Heading, Columns, Cells, Rows, EndsTable, cell_index}
 use Rattle.mathprog_data.specs.Tables as trees
 use Rattle.mathprog_data.proofs.OptionalCommas.{none, one, comma_of}
 

@@ -2,18 +2,10 @@
 use Rattle.std.proofs.Common.{◌≡◌, ℕ, inl, Bool, false, List, [], ◌∷◌, ◌++◌, Some, sym, refl, ap, ◌∙◌, subst, append_assoc}
 use Rattle.mathprog_data.proofs.TokensSeen.{seen, sign-seen, number-seen, point-no_number}
 use Rattle.mathprog_data.proofs.Walks.{Takes, go, emit, given_events, given_events-append, Loosened, columns, rows, row, Rests, SameFirst, switch, sign_go, symbol_go, take_comma}
-use Rattle.mathprog_data.specs.declared.blocks.Mark.{Mark}
+use Rattle.mathprog_data.proofs.Common.{Mark, Word, Placed, SymbolSeen, Open, InRecords, ParenRead, TrRead, TrClosed, InColumns, InRows, InRow, Event, ValueGiven, Go, Emit, turn, columns_end, cell, row_left, Slice, free_count, Listed, Name, Number, Given, given, Heading, Columns, Cells, Rows, Table, EndsTable, cell_index}
 use Rattle.mathprog_data.specs.declared.lexeme.Sign.TheVariants as signs
-use Rattle.mathprog_data.specs.declared.words.Word.{Word}
 use Rattle.mathprog_data.specs.declared.words.Word.TheVariants as words
-use Rattle.mathprog_data.specs.Lexemes.{Placed}
-use Rattle.mathprog_data.specs.MachineStates.{SymbolSeen, Open, InRecords, ParenRead, TrRead, TrClosed, InColumns, InRows, InRow, Event, ValueGiven, Go, Emit}
-use Rattle.mathprog_data.specs.MachineSteps.{turn, columns_end, cell, row_left}
 use Rattle.mathprog_data.specs.MachineSteps.{table as table_turn}
-use Rattle.mathprog_data.specs.Slices.{Slice, free_count}
-use Rattle.mathprog_data.specs.Statements.{Listed}
-use Rattle.mathprog_data.specs.Symbols.{Name, Number}
-use Rattle.mathprog_data.specs.Tables.{Given, given, Heading, Columns, Cells, Rows, Table, EndsTable, cell_index}
 use Rattle.mathprog_data.specs.Tables as trees
 
 take_heading : (F : Open → List Placed → Type 0) (param : ℕ) (slice : Slice) {transposed : Bool} {ts us : List Placed} {events : List Event} → free_count slice ≡ 2 → Heading transposed ts us → Takes F (InColumns param slice transposed [] false) us events

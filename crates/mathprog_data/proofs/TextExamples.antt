@@ -1,15 +1,6 @@
 -- What texts say, and which fault they have, computed on examples, with near misses.
-use Rattle.std.proofs.Common.{◌≡◌, ℕ, ℤ, ◌*◌, pos, List, [], ◌∷◌, Option, Some, None, refl, ap, arith}
+use Rattle.mathprog_data.proofs.Common.{◌≡◌, ℕ, ℤ, ◌*◌, pos, List, [], ◌∷◌, Option, Some, None, refl, ap, arith, numerator, denominator, number_of, Mark, bad_byte, open_string, open_comment, unexpected, end_too_soon, unknown_name, given_twice, wrong_slice, row_too_short, bad_number, tabbing, run, SetBlock, ParamBlock, GivenValue, Blocks, reading, Reads, Refuses, outcome_of, Says, FaultAt}
 use Rattle.std.specs.Prelude.{codes}
-use Rattle.scaled_decimals.specs.DecimalReading.{numerator, denominator}
-use Rattle.scaled_decimals.specs.Digits.{number_of}
-use Rattle.mathprog_data.specs.declared.blocks.Mark.{Mark}
-use Rattle.mathprog_data.specs.Faults.{bad_byte, open_string, open_comment, unexpected, end_too_soon, unknown_name, given_twice, wrong_slice, row_too_short, bad_number, tabbing}
-use Rattle.mathprog_data.specs.LexingRuns.{run}
-use Rattle.mathprog_data.specs.Meaning.{SetBlock, ParamBlock, GivenValue, Blocks}
-use Rattle.mathprog_data.specs.NumberReading.{reading}
-use Rattle.mathprog_data.specs.ReadingRuns.{Reads, Refuses, outcome_of}
-use Rattle.mathprog_data.specs.Verdicts.{Says, FaultAt}
 use Rattle.mathprog_data.proofs.StatementLawsHold.{statement_laws}
 use Rattle.mathprog_data.proofs.VerdictLaws.{reads_says, refuses_fault, one_fault, not_both}
 

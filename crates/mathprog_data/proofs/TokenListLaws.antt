@@ -1,21 +1,8 @@
 -- What the tokens that the lexer sees say of the text.
-use Rattle.std.proofs.Common.{◌≡◌, ◌≢◌, ℕ, ◌+◌, ◌<◌, ◌≤◌, inl, inr, List, [], ◌∷◌, ◌++◌, length, map, Ok, Err, Result, refl, sym, ap, subst, ◌∙◌, arith}
-use Rattle.std.specs.Prelude.{IfOk, IfErr, MatchResult}
-use Rattle.std.proofs.lemmas.List.{append_assoc, length-append}
-use Rattle.mathprog_data.specs.declared.blocks.Mark.{Mark}
-use Rattle.mathprog_data.specs.declared.fault.DataFault.{DataFault}
-use Rattle.mathprog_data.specs.declared.fault.ReadFail.{ReadFail}
-use Rattle.mathprog_data.specs.declared.fault.ReadFail.TheVariants.{Fault, Memory}
+use Rattle.mathprog_data.proofs.Common.{◌≡◌, ◌≢◌, ℕ, ◌+◌, ◌<◌, ◌≤◌, inl, inr, List, [], ◌∷◌, ◌++◌, length, map, Ok, Err, Result, refl, sym, ap, subst, ◌∙◌, arith, IfOk, IfErr, MatchResult, append_assoc, length-append, Mark, DataFault, ReadFail, Fault, Memory, place_after, Lexeme, Sign, Bare, Quoted, Placed, Piece, Separator, LineComment, BlockComment, SignToken, BareToken, QuotedToken, IsWhole, spelling, sign_bytes, Lexes, LexingEnd, TextEnds, Closes, Fails, Tokens, spellings, AreWhole, placed_at, placed_after, lexed, slice_of, slice_at, AreSlices, AreApart, IsLexicalFault, IsMemory, IsFaultOrMemory, ListsAll, IsDone}
 use Rattle.mathprog_data.specs.declared.lexeme.Sign.{Sign as TheSign}
 use Rattle.mathprog_data.specs.declared.lexeme.Sign.TheVariants as signs
 use Rattle.mathprog_data.specs.declared.token.Token.{Token}
-use Rattle.mathprog_data.specs.Places.{place_after}
-use Rattle.mathprog_data.specs.Lexemes.{Lexeme, Sign, Bare, Quoted, Placed}
-use Rattle.mathprog_data.specs.LexingPieces.{Piece, Separator, LineComment, BlockComment, SignToken, BareToken, QuotedToken, IsWhole, spelling, sign_bytes}
-use Rattle.mathprog_data.specs.Lexing.{Lexes, LexingEnd, TextEnds, Closes, Fails, Tokens, spellings, AreWhole, placed_at, placed_after}
-use Rattle.mathprog_data.specs.LexingRuns.{lexed}
-use Rattle.mathprog_data.specs.TokenSlices.{slice_of, slice_at, AreSlices, AreApart, IsLexicalFault, IsMemory, IsFaultOrMemory}
-use Rattle.mathprog_data.specs.TokenRuns.{ListsAll, IsDone}
 use Rattle.mathprog_data.proofs.LexingLaws.{lexes_lexed, lexes_only}
 
 -- a lexing that ends without a fault gives the tokens of the text

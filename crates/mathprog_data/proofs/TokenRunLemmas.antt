@@ -1,13 +1,8 @@
 -- What the lexer sees from a byte on, by what was seen of the byte.
-use Rattle.std.proofs.Common.{◌≡◌, ℕ, List, [], ◌∷◌, map, length, get_or, drop, slice_range, ◌+◌, ◌-◌, ◌<◌, ◌≤◌, refl, sym, ap, subst, ◌∙◌, append-nil, add-one, drop-cons, le_of_eq, length-drop, take_all}
+use Rattle.mathprog_data.proofs.Common.{◌≡◌, ℕ, List, [], ◌∷◌, map, length, get_or, drop, slice_range, ◌+◌, ◌-◌, ◌<◌, ◌≤◌, refl, sym, ap, subst, ◌∙◌, append-nil, add-one, drop-cons, le_of_eq, length-drop, take_all, Closing, slice_of, slices_of, slices, preceded_by, closed_with, IsDone, ListsAll, State, before, taken, ended, run, and_then, nothing_more, lexed_run}
 use Rattle.std.proofs.Math.ListN.{drop_of_length-le}
-use Rattle.mathprog_data.specs.declared.closing.Closing.{Closing}
 use Rattle.mathprog_data.specs.declared.token.Token.{Token}
-use Rattle.mathprog_data.specs.TokenSlices.{slice_of}
-use Rattle.mathprog_data.specs.TokenRuns.{slices_of, slices, preceded_by, closed_with, IsDone, ListsAll}
 use Rattle.mathprog_data.specs.declared.lexer.Seen.{Seen}
-use Rattle.mathprog_data.specs.LexingMachine.{State, before, taken, ended}
-use Rattle.mathprog_data.specs.LexingRuns.{run, and_then, nothing_more, lexed_run}
 use Rattle.mathprog_data.proofs.LexingSteps.{follow}
 
 -- what the byte ended, and then the byte

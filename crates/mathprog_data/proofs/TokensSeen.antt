@@ -1,16 +1,10 @@
 -- What the machine sees of a token that is a sign, a keyword, a symbol or a number, and the other way round.
-use Rattle.std.proofs.Common.{◌≡◌, ◌≢◌, ℕ, Bool, true, false, cond, List, [], ◌∷◌, codes, Option, Some, None, Ok, sym, refl, ap, ◌∙◌, subst, bytes_eq}
+use Rattle.mathprog_data.proofs.Common.{◌≡◌, ◌≢◌, ℕ, Bool, true, false, cond, List, [], ◌∷◌, codes, Option, Some, None, Ok, sym, refl, ap, ◌∙◌, subst, bytes_eq, Word, Lexeme, Sign, Bare, Quoted, Placed, bare_name, Seen, SignSeen, SymbolSeen, seen_of, reading, param_number, Name, Number, IsSign, IsKeyword, IsSymbol, IsNumberToken, symbol_name}
 use Rattle.std.proofs.lemmas.Slice.Eq.{bytes_eq-Decides}
 use Rattle.scaled_decimals.specs.DecimalReading.{Reads}
 use Rattle.mathprog_data.proofs.NumberReadingLaws.{reading-Reads, Reads-reading}
 use Rattle.mathprog_data.specs.declared.lexeme.Sign.{Sign as TheSign}
-use Rattle.mathprog_data.specs.declared.words.Word.{Word}
 use Rattle.mathprog_data.specs.declared.words.Word.TheVariants.{Data, Set, Param, End, Default, Tr, Point, Other}
-use Rattle.mathprog_data.specs.Lexemes.{Lexeme, Sign, Bare, Quoted, Placed, bare_name}
-use Rattle.mathprog_data.specs.MachineStates.{Seen, SignSeen, SymbolSeen, seen_of}
-use Rattle.mathprog_data.specs.NumberReading.{reading}
-use Rattle.model_sets.specs.Params.{param_number}
-use Rattle.mathprog_data.specs.Symbols.{Name, Number, IsSign, IsKeyword, IsSymbol, IsNumberToken, symbol_name}
 use Rattle.mathprog_data.specs.Words.{word_of}
 
 -- what the machine sees of a token

@@ -1,19 +1,8 @@
 -- What holds of every turn of the machine: which states it keeps sound, which it leads to by a semicolon, and in which statement it stays.
-use Rattle.std.proofs.Common.{◌≡◌, ℕ, zero, suc, ◌+◌, nat_eq, Bool, true, false, cond, ◌&&◌, ◌||◌, List, [], ◌∷◌, ◌++◌, length, Option, Some, None, refl, arith}
+use Rattle.mathprog_data.proofs.Common.{◌≡◌, ℕ, zero, suc, ◌+◌, nat_eq, Bool, true, false, cond, ◌&&◌, ◌||◌, List, [], ◌∷◌, ◌++◌, length, Option, Some, None, refl, arith, eqb-true, Mark, Word, unexpected, unknown_name, wrong_slice, row_too_short, bad_number, tabbing, Seen, SignSeen, SymbolSeen, Open, Fresh, DataRead, Between, EndRead, Ended, SetRead, InSet, ParamRead, ParamNamed, DefaultRead, LeadingDefault, LeadingNumber, TabbingColon, TabbingNamed, InRecords, InPlain, PlaceDue, PlaceRead, ParenRead, TrRead, TrClosed, InColumns, InRows, InRow, Event, DefaultGiven, ValueGiven, Turn, Stop, Go, Emit, turn, set_name, param_name, tabbing_name, comma, number, plain, bracket, columns_end, cell, row_left, set_number, param_number, subscript_count, results_path, Slice, free_count, all_free, index_at, Form, Listed, Tabbing, Name, Number}
 use Rattle.std.specs.Prelude.{pos, if◌then◌else◌}
-use Rattle.std.proofs.lemmas.Bool.{eqb-true}
-use Rattle.mathprog_data.specs.declared.blocks.Mark.{Mark}
 use Rattle.mathprog_data.specs.declared.lexeme.Sign.TheVariants as signs
-use Rattle.mathprog_data.specs.declared.words.Word.{Word}
 use Rattle.mathprog_data.specs.declared.words.Word.TheVariants as words
-use Rattle.mathprog_data.specs.Faults.{unexpected, unknown_name, wrong_slice, row_too_short, bad_number, tabbing}
-use Rattle.mathprog_data.specs.MachineStates.{Seen, SignSeen, SymbolSeen, Open, Fresh, DataRead, Between, EndRead, Ended, SetRead, InSet, ParamRead, ParamNamed, DefaultRead, LeadingDefault, LeadingNumber, TabbingColon, TabbingNamed, InRecords, InPlain, PlaceDue, PlaceRead, ParenRead, TrRead, TrClosed, InColumns, InRows, InRow, Event, DefaultGiven, ValueGiven, Turn, Stop, Go, Emit}
-use Rattle.mathprog_data.specs.MachineSteps.{turn, set_name, param_name, tabbing_name, comma, number, plain, bracket, columns_end, cell, row_left}
-use Rattle.model_sets.specs.Names.{set_number}
-use Rattle.model_sets.specs.Params.{param_number, subscript_count, results_path}
-use Rattle.mathprog_data.specs.Slices.{Slice, free_count, all_free, index_at}
-use Rattle.mathprog_data.specs.Statements.{Form, Listed, Tabbing}
-use Rattle.mathprog_data.specs.Symbols.{Name, Number}
 
 -- ---- sound states
 -- the list isn't empty
@@ -125,10 +114,6 @@ append-one : {A : Type 0} (xs : List A) (x : A) → length (xs ++ x ∷ []) ≡ 
 append-one [] x = refl
 append-one (y ∷ ys) x = let h = append-one ys x in omega (arith, h)
 
-some-append : {A : Type 0} (xs : List A) (x : A) → has_some (xs ++ x ∷ []) ≡ true
-some-append [] x = refl
-some-append (y ∷ ys) x = refl
-
 holds-bracket : {slice : Slice} {c : Bool} (param count : ℕ) → subscript_count param ≡ count → Holds (InRecords Listed param slice c) (SignSeen signs.OpenBracket) (bracket param count)
 holds-bracket param zero e = stop refl
 holds-bracket {slice = slice} {c = c} param (suc left) e = goes (moved (λ h. first) refl refl refl (λ a b. cc))
@@ -199,11 +184,6 @@ as_rows (emits m) = emits (moved (λ h. m.sane h.0.fits) m.closes m.starts m.not
 holds-columns : {slice : Slice} {transposed c : Bool} (param : ℕ) (names : List Name) → Holds (InColumns param slice transposed names c) (SignSeen signs.Gives) (columns_end param slice transposed names)
 holds-columns param [] = stop refl
 holds-columns param (name ∷ names) = goes (moved (λ h. (h, refl)) refl refl refl (λ a b. cc))
-
--- after a cell
-left-sane : (param : ℕ) (slice : Slice) (transposed : Bool) (names : List Name) (row : Name) (mark : Mark) (left : List Name) → Tabled param slice → has_some names ≡ true → IsSane (row_left param slice transposed names row mark left)
-left-sane param slice transposed names row mark [] t h = (t, h)
-left-sane param slice transposed names row mark (column ∷ left) t h = (t, h, refl)
 
 left-moved : {c : Bool} (param : ℕ) (slice : Slice) (transposed : Bool) (names : List Name) (row : Name) (mark : Mark) (column : Name) (left : List Name) (w : Word) (x : Name) (n : Option Number) → Moved (InRow param slice transposed names row mark (column ∷ left) c) (SymbolSeen w x n) (row_left param slice transposed names row mark left)
 left-moved param slice transposed names row mark column [] w x n = moved (λ h. (h.0, h.1)) refl refl refl (λ a b. cc)

@@ -1,10 +1,6 @@
 -- What kept values say, computed on examples, with near misses.
-use Rattle.std.proofs.Common.{◌≡◌, ℕ, zero, suc, ◌<◌, pos, List, [], ◌∷◌, get_or, refl, ap, arith, lit<}
+use Rattle.mathprog_data.proofs.Common.{◌≡◌, ℕ, zero, suc, ◌<◌, pos, List, [], ◌∷◌, get_or, refl, ap, arith, lit<, Mark, KeptValue, Name, AreKept, AreWithin, Grown, PointTo, all_told, name_at, names_at}
 use Rattle.std.specs.Prelude.{codes}
-use Rattle.mathprog_data.specs.declared.blocks.Mark.{Mark}
-use Rattle.mathprog_data.specs.declared.name_places.KeptValue.{KeptValue}
-use Rattle.mathprog_data.specs.Symbols.{Name}
-use Rattle.mathprog_data.specs.ValuesView.{AreKept, AreWithin, Grown, PointTo, all_told, name_at, names_at}
 
 abbrev names : List Name
 names = codes "N" ∷ codes "GAS" ∷ codes "2030" ∷ []

@@ -1,11 +1,5 @@
 -- Values go on saying what they said while names are added.
-use Rattle.std.proofs.Common.{ℕ, zero, suc, ◌≡◌, ◌≤◌, ◌<◌, ◌+◌, List, [], ◌∷◌, ◌++◌, length, drop, get_or, Option, Some, None, refl, sym, ap, subst, ◌∙◌, arith}
-use Rattle.std.proofs.lemmas.List.{drop_more, get_or_default, length-map, map-append}
-use Rattle.mathprog_data.specs.declared.name_places.KeptValue.{KeptValue}
-use Rattle.mathprog_data.specs.Meaning.{GivenValue}
-use Rattle.mathprog_data.specs.Slices.{Slice, index_at}
-use Rattle.mathprog_data.specs.Symbols.{Name}
-use Rattle.mathprog_data.specs.ValuesView.{AreKept, AreWithin, Grown, all_told, kept_told, name_at, names_at, places_in}
+use Rattle.mathprog_data.proofs.Common.{ℕ, zero, suc, ◌≡◌, ◌≤◌, ◌<◌, ◌+◌, List, [], ◌∷◌, ◌++◌, length, drop, get_or, Option, Some, None, refl, sym, ap, subst, ◌∙◌, arith, drop_more, get_or_default, length-map, map-append, KeptValue, GivenValue, Slice, index_at, Name, AreKept, AreWithin, Grown, all_told, kept_told, name_at, names_at, places_in}
 use Rattle.mathprog_data.specs.ValuesView.AreKept.{none as no_values, more as one_value}
 use Rattle.mathprog_data.specs.ValuesView.AreWithin.{none as no_places, more as one_place}
 

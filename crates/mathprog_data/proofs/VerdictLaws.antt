@@ -1,22 +1,7 @@
 -- What is made of a text is what it says, or the fault that it has; and what a text says, or has, is made of it.
-use Rattle.std.proofs.Common.{◌≡◌, ℕ, true, false, ◌⊎◌, inl, inr, List, [], ◌∷◌, ◌++◌, Result, Ok, Err, refl, sym, ap, subst, ◌∙◌, append-nil}
-use Rattle.std.proofs.lemmas.Bool.{cond-true, cond-false, cases_Bool, both_ways, false_from_ne_true}
-use Rattle.std.proofs.lemmas.List.{append_assoc}
-use Rattle.mathprog_data.specs.declared.blocks.Mark.{Mark}
+use Rattle.mathprog_data.proofs.Common.{◌≡◌, ℕ, true, false, ◌⊎◌, inl, inr, List, [], ◌∷◌, ◌++◌, Result, Ok, Err, refl, sym, ap, subst, ◌∙◌, append-nil, cond-true, cond-false, cases_Bool, both_ways, false_from_ne_true, append_assoc, Mark, end_too_soon, Placed, Lexes, LexingEnd, TextEnds, Closes, Fails, Tokens, placed_at, placed_after, spellings, is_semicolon, Piece, SignToken, spelling, lexed, Reader, drafted, may_end, beginning, Blocks, Means, place_after, Outcome, Reads, Refuses, at_text_end, outcome_at, outcome_from, outcome_of, IsGood, FaultIn, EndsTooSoon, Says, FaultAt, at_token, lexical, too_soon}
 use Rattle.mathprog_data.specs.declared.lexeme.Sign.TheVariants as signs
-use Rattle.mathprog_data.specs.Faults.{end_too_soon}
-use Rattle.mathprog_data.specs.Lexemes.{Placed}
-use Rattle.mathprog_data.specs.Lexing.{Lexes, LexingEnd, TextEnds, Closes, Fails, Tokens, placed_at, placed_after, spellings, is_semicolon}
-use Rattle.mathprog_data.specs.LexingPieces.{Piece, SignToken, spelling}
-use Rattle.mathprog_data.specs.LexingRuns.{lexed}
 use Rattle.mathprog_data.specs.MachineRuns.{Stopped, run}
-use Rattle.mathprog_data.specs.MachineStates.{Reader, drafted}
-use Rattle.mathprog_data.specs.MachineSteps.{may_end, beginning}
-use Rattle.mathprog_data.specs.Meaning.{Blocks, Means}
-use Rattle.mathprog_data.specs.Places.{place_after}
-use Rattle.mathprog_data.specs.ReadingRuns.{Outcome, Reads, Refuses, at_text_end, outcome_at, outcome_from, outcome_of}
-use Rattle.mathprog_data.specs.StatementFaults.{IsGood, FaultIn, EndsTooSoon}
-use Rattle.mathprog_data.specs.Verdicts.{Says, FaultAt, at_token, lexical, too_soon}
 use Rattle.mathprog_data.proofs.LexingLaws.{lexes_lexed, lexes_only}
 use Rattle.mathprog_data.proofs.ReadingLemmas.{may_end_after}
 

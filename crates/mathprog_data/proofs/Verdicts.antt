@@ -1,5 +1,5 @@
 -- What the machine over a list says is what the list is: its blocks, that more is to come, or its fault; one of them, and one alone.
-use Rattle.std.proofs.Common.{◌≡◌, ℕ, ◌↔◌, Bool, true, false, ◌&&◌, not, List, [], ◌∷◌, ◌++◌, Result, Ok, Err, sym, refl, ap, ap₂, ◌∙◌, subst}
+use Rattle.mathprog_data.proofs.Common.{◌≡◌, ℕ, ◌↔◌, Bool, true, false, ◌&&◌, not, List, [], ◌∷◌, ◌++◌, Result, Ok, Err, sym, refl, ap, ap₂, ◌∙◌, subst, Mark, given_twice, Placed, Open, Fresh, Event, Turn, Stop, Go, Emit, Draft, empty_draft, drafted, Reader, turn, is_second, beginning, may_end, Blocks, Means, BeginsLoose, IsGood, Carries, FaultIn, EndsTooSoon}
 use Rattle.mathprog_data.proofs.CouldStand.{by_emit, one_more}
 use Rattle.mathprog_data.proofs.FaultsCarried.{carried, carries-stop}
 use Rattle.mathprog_data.proofs.GoodLists.{way-loose, good-goes, goes-good, EndsWith, means-ends, ends-means}
@@ -10,14 +10,7 @@ use Rattle.mathprog_data.proofs.StatementFaultLaws.{Beyond, Lacking}
 use Rattle.mathprog_data.proofs.TokensSeen.{seen}
 use Rattle.mathprog_data.proofs.WalkLaws.{Reached, reached, Walks, joined}
 use Rattle.mathprog_data.proofs.Walks.{done, go, emit}
-use Rattle.mathprog_data.specs.declared.blocks.Mark.{Mark}
-use Rattle.mathprog_data.specs.Faults.{given_twice}
-use Rattle.mathprog_data.specs.Lexemes.{Placed}
 use Rattle.mathprog_data.specs.MachineRuns.{Stopped, run}
-use Rattle.mathprog_data.specs.MachineStates.{Open, Fresh, Event, Turn, Stop, Go, Emit, Draft, empty_draft, drafted, Reader}
-use Rattle.mathprog_data.specs.MachineSteps.{turn, is_second, beginning, may_end}
-use Rattle.mathprog_data.specs.Meaning.{Blocks, Means}
-use Rattle.mathprog_data.specs.StatementFaults.{BeginsLoose, IsGood, IsRefused, Carries, FaultIn, EndsTooSoon}
 use Rattle.mathprog_data.specs.StatementFaults as faults
 
 -- the state after tokens knows whether they lack subscripts
@@ -167,22 +160,6 @@ pub one_fault : (ts : List Placed) (n m : ℕ) (at on_mark : Mark) → FaultIn t
 one_fault ts n m at on_mark f g =
     let same : stopped n at ≡ stopped m on_mark = stopped-is (sym (fault-stopped ts n at f) ∙ fault-stopped ts m on_mark g) in
     (ap (λ s. s.number) same, ap (λ s. s.at) same)
-
--- no list that means blocks has a fault, or ends too soon; nor does one with a fault end too soon
-pub means-faultless : (ts : List Placed) (blocks : Blocks) (k : ℕ) (at : Mark) → Means ts blocks → FaultIn ts k at → ⊥
-means-faultless ts blocks k at m f =
-    let w = means-ends ts blocks m in
-    let bad : Ok w.beyond ≡ Err (stopped k at) = sym w.is ∙ fault-stopped ts k at f in
-    cc
-
-pub means-whole : (ts : List Placed) (blocks : Blocks) → Means ts blocks → EndsTooSoon ts → ⊥
-means-whole ts blocks m s = s.means_nothing blocks m
-
-pub soon-faultless : (ts : List Placed) (k : ℕ) (at : Mark) → EndsTooSoon ts → FaultIn ts k at → ⊥
-soon-faultless ts k at s f =
-    let g = good-goes ts s.good in
-    let bad : Ok g.beyond ≡ Err (stopped k at) = sym g.is ∙ fault-stopped ts k at f in
-    cc
 
 -- every list means blocks, ends too soon, or has a fault
 pub data Judged (ts : List Placed) : Type 0 where

@@ -1,10 +1,7 @@
 -- Ways of the machine, cut and joined, and that there is one at most.
-use Rattle.std.proofs.Common.{◌≡◌, List, [], ◌∷◌, ◌++◌, refl, ap, ◌∙◌, subst}
+use Rattle.mathprog_data.proofs.Common.{◌≡◌, List, [], ◌∷◌, ◌++◌, refl, ap, ◌∙◌, subst, Placed, Open, Event, Go, Emit, turn}
 use Rattle.mathprog_data.proofs.TokensSeen.{seen}
 use Rattle.mathprog_data.proofs.Walks.{Takes, done, go, emit}
-use Rattle.mathprog_data.specs.Lexemes.{Placed}
-use Rattle.mathprog_data.specs.MachineStates.{Open, Event, Go, Emit}
-use Rattle.mathprog_data.specs.MachineSteps.{turn}
 
 -- all tokens are taken, and this is open
 pub data Reached (end : Open) : Open → List Placed → Type 0 where

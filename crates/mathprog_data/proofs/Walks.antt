@@ -1,19 +1,10 @@
 -- The way of the machine over tokens, names and what was read before aside: from one state on, with the events on the way.
-use Rattle.std.proofs.Common.{◌≡◌, ℕ, ◌⊎◌, inl, inr, Bool, true, false, List, [], ◌∷◌, ◌++◌, Option, Some, None, refl, ap, ◌∙◌}
+use Rattle.mathprog_data.proofs.Common.{◌≡◌, ℕ, ◌⊎◌, inl, inr, Bool, true, false, List, [], ◌∷◌, ◌++◌, Option, Some, None, refl, ap, ◌∙◌, Mark, Word, unexpected, Placed, Seen, SignSeen, SymbolSeen, Open, InSet, ParamNamed, LeadingNumber, TabbingNamed, InRecords, InPlain, InColumns, InRows, InRow, Event, Begins, MemberNamed, DefaultGiven, ValueGiven, SetClosed, ParamClosed, Stop, Go, Emit, turn, Slice, Form, Listed, Tabbing, SetBegun, ParamBegun, TabbingBegun, Statement, Set, Param, Given}
 use Rattle.mathprog_data.proofs.TokensSeen.{seen, sign-seen, symbol-seen}
-use Rattle.mathprog_data.specs.declared.blocks.Mark.{Mark}
 use Rattle.mathprog_data.specs.declared.lexeme.Sign.{Sign as TheSign}
 use Rattle.mathprog_data.specs.declared.lexeme.Sign.TheVariants as signs
-use Rattle.mathprog_data.specs.declared.words.Word.{Word}
 use Rattle.mathprog_data.specs.declared.words.Word.TheVariants as words
-use Rattle.mathprog_data.specs.Faults.{unexpected}
-use Rattle.mathprog_data.specs.Lexemes.{Placed}
-use Rattle.mathprog_data.specs.MachineStates.{Seen, SignSeen, SymbolSeen, Open, InSet, ParamNamed, LeadingNumber, TabbingNamed, InRecords, InPlain, InColumns, InRows, InRow, Event, Begins, MemberNamed, DefaultGiven, ValueGiven, SetClosed, ParamClosed, Stop, Go, Emit}
-use Rattle.mathprog_data.specs.MachineSteps.{turn}
-use Rattle.mathprog_data.specs.Slices.{Slice}
-use Rattle.mathprog_data.specs.Statements.{Form, Listed, Tabbing, SetBegun, ParamBegun, TabbingBegun, Statement, Set, Param}
 use Rattle.mathprog_data.specs.Symbols.{Name, Number, IsSign, IsSymbol, Comma, none, one}
-use Rattle.mathprog_data.specs.Tables.{Given}
 
 -- from this state the machine takes tokens, with these events, until it is where F says
 pub data Takes (F : Open → List Placed → Type 0) : Open → List Placed → List Event → Type 0 where

@@ -1,31 +1,18 @@
 -- The blocks that a list means are such as a text can give: numbers of sets and parameters in their lists and none twice, full indices,
 -- and numbers within the limit.
-use Rattle.std.proofs.Common.{◌≡◌, ℕ, suc, ◌+◌, ◌^◌, ◌<◌, ◌≤◌, Bool, true, false, ◌||◌, List, [], ◌∷◌, ◌++◌, Option, Some, None, length, map, refl, ap, sym, ◌∙◌, subst, arith, zero-le}
+use Rattle.mathprog_data.proofs.Common.{◌≡◌, ℕ, suc, ◌+◌, ◌^◌, ◌<◌, ◌≤◌, Bool, true, false, ◌||◌, List, [], ◌∷◌, ◌++◌, Option, Some, None, length, map, refl, ap, sym, ◌∙◌, subst, arith, zero-le, option_map, length-replicate, IfOk-bound, Mark, Placed, GivenValue, SetBlock, ParamBlock, Blocks, Item, SetItem, ParamItem, Opening, Statements, IsLoose, loose, NoNameTwice, Means, blocks_of, set_blocks, param_blocks, default_value, value_of, item_of, item_begun, same_item, is_named, IsSet, set_words, set_number, IsParam, param_words, param_number, subscript_count, Slice, all_free, free_count, index_at, Places, Subscripts, Plain, Form, Records, Default, Begun, SetBegun, ParamBegun, TabbingBegun, Beginning, Statement, Set, Param, IsStatement, Name, Number, IsNumberToken, IsValue, Given, given, Cells, Rows, Table, cell_index, IsValueOf, IsParamBlock, AreWellFormed}
 use Rattle.std.specs.List.{AllByRecursion, IsDistinct, flat_map, position}
-use Rattle.std.specs.Option.{option_map}
 use Rattle.std.specs.Prelude.{Ok, nat_eq, IfSome, unsigned_abs}
 use Rattle.std.specs.Str.{bytes_eq}
-use Rattle.std.proofs.lemmas.List.{length-replicate}
 use Rattle.std.proofs.lemmas.List.Elements.{All-from_recursion}
 use Rattle.std.proofs.lemmas.List.Quantifiers.{position-Some}
 use Rattle.std.proofs.lemmas.Map.Keys.{IsDistinct-cons}
 use Rattle.scaled_decimals.specs.DecimalReading.{Reads}
-use Rattle.scaled_decimals.proofs.DecimalLemmas.{IfOk-bound}
-use Rattle.mathprog_data.specs.declared.blocks.Mark.{Mark}
-use Rattle.mathprog_data.specs.Lexemes.{Placed}
-use Rattle.mathprog_data.specs.Meaning.{GivenValue, SetBlock, ParamBlock, Blocks, Item, SetItem, ParamItem, Opening, Statements, IsLoose, loose, NoNameTwice, Means, blocks_of, set_blocks, param_blocks, default_value, value_of, item_of, item_begun, same_item, is_named}
 use Rattle.mathprog_data.specs.Meaning as meaning
-use Rattle.model_sets.specs.Names.{IsSet, set_words, set_number}
-use Rattle.model_sets.specs.Params.{IsParam, param_words, param_number, subscript_count}
-use Rattle.mathprog_data.specs.Slices.{Slice, all_free, free_count, index_at, Places}
 use Rattle.mathprog_data.specs.Slices as slices
-use Rattle.mathprog_data.specs.Statements.{Subscripts, Plain, Form, Records, Default, Begun, SetBegun, ParamBegun, TabbingBegun, Beginning, Statement, Set, Param, IsStatement}
 use Rattle.mathprog_data.specs.Statements as statements
-use Rattle.mathprog_data.specs.Symbols.{Name, Number, IsNumberToken, IsValue}
 use Rattle.mathprog_data.specs.Symbols as symbols
-use Rattle.mathprog_data.specs.Tables.{Given, given, Cells, Rows, Table, cell_index}
 use Rattle.mathprog_data.specs.Tables as tables
-use Rattle.mathprog_data.specs.WellFormed.{IsValueOf, IsParamBlock, AreWellFormed}
 
 -- ---- numbers of sets and parameters
 

@@ -47,9 +47,6 @@ one_line-from_test text passes = record { bytes = each text passes }
         others true b e = absurd (cc e)
         others false b e = e
 
-pub one_line-append : (a b : List ℕ) → IsOneLine a → IsOneLine b → IsOneLine (a ++ b)
-one_line-append a b first second = record { bytes = all-append GoesOn a b first.bytes second.bytes }
-
 words-go_on : (w : List ℕ) → AllByRecursion IsInWord w → AllByRecursion GoesOn w
 words-go_on [] all = tt
 words-go_on (b ∷ bs) all = (all.0.1, words-go_on bs all.1)

@@ -1,19 +1,11 @@
 -- Places of variables among columns that ascend, and the entries of a row column by column.
-use Rattle.std.proofs.Common.{◌≡◌, ℕ, ◌+◌, ◌<◌, ◌≤◌, ◌^◌, Bool, true, false, List, [], ◌∷◌, ◌++◌, length, map, refl, ap, sym, ◌∙◌, subst, arith, inl, inr, ◌⊎◌}
-use Rattle.std.specs.Prelude.{ℤ}
-use Rattle.std.specs.List.{AllByRecursion, enumerate_from, flat_map}
+use Rattle.mps_reading.proofs.Common.{◌≡◌, ℕ, ◌+◌, ◌<◌, ◌≤◌, ◌^◌, Bool, true, false, List, [], ◌∷◌, ◌++◌, length, map, refl, ap, sym, ◌∙◌, subst, arith, inl, inr, ◌⊎◌, ℤ, AllByRecursion, enumerate_from, flat_map, Var, ascends, variables_of, var_cmp, Numbers, Rises, all-weaker, numbers_in, one_if, name_of_column, place_of}
 use Rattle.std.specs.Ordering.{is_eq, is_lt, ordering_reverse}
 use Rattle.std.specs.declared.cmp.Ordering.{Ordering}
 use Rattle.std.specs.declared.cmp.Ordering.TheVariants.{Less, Equal, Greater}
-use Rattle.row_core.specs.declared.Var.{Var}
-use Rattle.row_core.specs.Numbers.{ascends, variables_of}
-use Rattle.row_core.specs.Order.{var_cmp}
 use Rattle.row_core.proofs.AscendingLaws.{Less-from_test, ascends-tail, both_passed}
 use Rattle.row_core.proofs.Orders.{var_cmp_exact, var_cmp_total}
-use Rattle.mps_meaning.specs.Programs.{Numbers}
-use Rattle.mps_meaning.proofs.NumberedLaws.{Rises, all-weaker, numbers_in, one_if}
 use Rattle.mps_reading.proofs.Sections.{entry_at}
-use Rattle.mps_reading.specs.RowPrograms.{name_of_column, place_of}
 
 -- ---- variables
 

@@ -1,26 +1,11 @@
 -- The text of rows reads as their program.
-use Rattle.std.proofs.Common.{◌≡◌, ℕ, ◌+◌, ◌<◌, ◌≤◌, ◌^◌, Bool, true, false, ◌&&◌, List, [], ◌∷◌, ◌++◌, length, map, Some, refl, ap, ◌∙◌, subst, arith, inl, inr, ◌⊎◌, zero, suc, ltb-true, eq-eqb}
-use Rattle.std.specs.Prelude.{ℤ, unsigned_abs, Contains, slice_index_or}
-use Rattle.std.specs.List.{AllByRecursion, enumerate_from}
-use Rattle.std.proofs.lemmas.List.{length-map}
-use Rattle.model_sets.specs.Members.{SetLists}
+use Rattle.mps_reading.proofs.Common.{◌≡◌, ℕ, ◌+◌, ◌<◌, ◌≤◌, ◌^◌, Bool, true, false, ◌&&◌, List, [], ◌∷◌, ◌++◌, length, map, Some, refl, ap, ◌∙◌, subst, arith, inl, inr, ◌⊎◌, zero, suc, ltb-true, eq-eqb, ℤ, unsigned_abs, Contains, slice_index_or, AllByRecursion, enumerate_from, length-map, SetLists, Var, TOTAL_DISCOUNTED_COST, all_in_range, ascends, in_range, numbers_of, variables_of, row_name, variable_name, var_cmp, RowContents, contents_of, is_one_line, program_of, sound_program, IsFrom, all-numbered, all-weaker, all-with, numbered-from, AreReadable, entry_variables, program_of_contents, program_of_rows, mps_text, rows_text}
 use Rattle.row_core.specs.declared.Row.{Row}
-use Rattle.row_core.specs.declared.Var.{Var}
-use Rattle.row_core.specs.declared.kind_numbers.TheConstants.{TOTAL_DISCOUNTED_COST}
-use Rattle.row_core.specs.Numbers.{all_in_range, ascends, in_range, numbers_of, variables_of}
-use Rattle.row_core.specs.NameTexts.{row_name, variable_name}
-use Rattle.row_core.specs.Order.{var_cmp}
-use Rattle.row_core.specs.Contents.{RowContents, contents_of}
-use Rattle.mps_meaning.specs.Lines.{is_one_line}
-use Rattle.mps_meaning.specs.Reading.{program_of, sound_program}
-use Rattle.mps_meaning.proofs.NumberedLaws.{IsFrom, all-numbered, all-weaker, all-with, numbered-from}
 use Rattle.mps_reading.proofs.Places.{Among}
 use Rattle.mps_reading.proofs.Sections.{ArePrinted, IsPrintedRow, IsShort, columns-state, free-state, rows-state, sides-state}
 use Rattle.mps_reading.proofs.Sound.{sound}
 use Rattle.mps_reading.proofs.Stated.{IsUsed, IsWithColumns, program-stated, variables_in}
 use Rattle.mps_reading.proofs.Whole.{statements_of_rows, text-states}
-use Rattle.mps_reading.specs.RowPrograms.{AreReadable, entry_variables, program_of_contents, program_of_rows}
-use Rattle.mps_writer.specs.MpsText.{mps_text, rows_text}
 
 -- ---- what rows say
 

@@ -1,19 +1,8 @@
 -- The text of the rows of a worked example, read as MPS, and near misses, in which a premise of the law fails.
-use Rattle.std.proofs.Common.{◌≡◌, ℕ, List, [], ◌∷◌, ◌++◌, refl}
+use Rattle.mps_reading.proofs.Common.{◌≡◌, ℕ, List, [], ◌∷◌, ◌++◌, refl, digits, SetLists, Sense, Equal, Most, Var, TOTAL_DISCOUNTED_COST, RowContents, Letter, Program, program_of, program_of_contents, rows_text}
 use Rattle.std.specs.Prelude.{ℤ, pos, negsuc, codes, None, Some}
-use Rattle.std.specs.Fmt.{digits}
-use Rattle.model_sets.specs.Members.{SetLists}
 use Rattle.row_core.specs.declared.RowName.{RowName}
-use Rattle.row_core.specs.declared.Sense.{Sense}
-use Rattle.row_core.specs.declared.Sense.TheVariants.{Equal, Most}
-use Rattle.row_core.specs.declared.Var.{Var}
-use Rattle.row_core.specs.declared.kind_numbers.TheConstants.{TOTAL_DISCOUNTED_COST}
 use Rattle.row_core.specs.Names.{new_capacity, accumulated_new_capacity, total_capacity_annual, caa1, caa2}
-use Rattle.row_core.specs.Contents.{RowContents}
-use Rattle.mps_meaning.specs.Programs.{Letter, Program}
-use Rattle.mps_meaning.specs.Reading.{program_of}
-use Rattle.mps_reading.specs.RowPrograms.{program_of_contents}
-use Rattle.mps_writer.specs.MpsText.{rows_text}
 
 abbrev total_discounted_cost : ℕ → ℕ → Var
 total_discounted_cost r y = record {

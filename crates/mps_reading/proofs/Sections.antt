@@ -1,22 +1,5 @@
 -- What each section of the text states.
-use Rattle.std.proofs.Common.{◌≡◌, ℕ, ◌+◌, ◌<◌, ◌≤◌, ◌^◌, Bool, true, false, not, cond, List, [], ◌∷◌, ◌++◌, length, Option, refl, append_assoc, sym, subst}
-use Rattle.std.specs.Prelude.{ℤ, pos, unsigned_abs, codes}
-use Rattle.std.specs.List.{AllByRecursion, enumerate_from, flat_map}
-use Rattle.std.specs.Fmt.{signed_decimal}
-use Rattle.model_sets.specs.Members.{SetLists}
-use Rattle.row_core.specs.declared.Sense.{Sense}
-use Rattle.row_core.specs.declared.Sense.TheVariants.{Least, Equal, Most}
-use Rattle.row_core.specs.declared.Var.{Var}
-use Rattle.row_core.specs.NameTexts.{row_name, variable_name}
-use Rattle.row_core.specs.Numbers.{is_zero}
-use Rattle.row_core.specs.Contents.{RowContents}
-use Rattle.mps_meaning.specs.Lines.{Name, is_one_line}
-use Rattle.mps_meaning.specs.Statements.{NamedRow, ProgramEntry, entry_line, free_line, row_line, side_line}
-use Rattle.mps_meaning.proofs.LineLaws.{IsInWord, IsWord, one_line-from_test, spaced}
-use Rattle.mps_meaning.proofs.NumberedLaws.{IsFrom, chosen, one_if, paired, all-with, all-numbered, all-weaker, numbered-from}
-use Rattle.mps_meaning.proofs.PrintedLaws.{lettered, number-read, word-lettered, word-number}
-use Rattle.mps_meaning.proofs.SectionLaws.{States, states-append, states-comment, states-each, states-line, states-nothing}
-use Rattle.mps_reading.specs.RowPrograms.{is_cost, letter_of}
+use Rattle.mps_reading.proofs.Common.{◌≡◌, ℕ, ◌+◌, ◌<◌, ◌≤◌, ◌^◌, Bool, true, false, not, cond, List, [], ◌∷◌, ◌++◌, length, Option, refl, append_assoc, sym, subst, ℤ, pos, unsigned_abs, codes, AllByRecursion, enumerate_from, flat_map, signed_decimal, SetLists, Sense, Least, Equal, Most, Var, row_name, variable_name, is_zero, RowContents, Name, is_one_line, NamedRow, ProgramEntry, entry_line, free_line, row_line, side_line, IsInWord, IsWord, one_line-from_test, spaced, IsFrom, chosen, one_if, paired, all-with, all-numbered, all-weaker, numbered-from, lettered, number-read, word-lettered, word-number, States, states-append, states-comment, states-each, states-line, states-nothing, is_cost, letter_of}
 use Rattle.mps_writer.specs.MpsText as writer
 
 -- ---- what the lines state

@@ -1,20 +1,9 @@
 -- Nothing in the text is refused: no name and no entry is there twice, and all that is spoken of is there.
-use Rattle.std.proofs.Common.{◌≡◌, ℕ, ◌+◌, ◌≤◌, ◌^◌, Bool, true, false, List, [], ◌∷◌, length, map, refl, ap, sym, ◌∙◌, subst, arith}
-use Rattle.std.specs.Prelude.{ℤ, codes}
-use Rattle.std.specs.List.{AllByRecursion, enumerate_from, flat_map, list_all}
-use Rattle.row_core.specs.declared.Var.{Var}
-use Rattle.row_core.specs.Numbers.{ascends, variables_of}
-use Rattle.row_core.specs.Order.{var_cmp}
-use Rattle.row_core.specs.Contents.{RowContents}
-use Rattle.mps_meaning.specs.Lines.{Name}
-use Rattle.mps_meaning.specs.Reading.{are_distinct, are_known, are_sound, columns_in, have_distinct_columns, is_among, names_of_rows}
-use Rattle.mps_meaning.proofs.NumberedLaws.{all-among, all-each, all-numbered, all-weaker, chosen, chosen-distinct, distinct-rising, one_if}
-use Rattle.mps_meaning.proofs.PrintedLaws.{lettered}
+use Rattle.mps_reading.proofs.Common.{◌≡◌, ℕ, ◌+◌, ◌≤◌, ◌^◌, Bool, true, false, List, [], ◌∷◌, length, map, refl, ap, sym, ◌∙◌, subst, arith, ℤ, codes, AllByRecursion, enumerate_from, flat_map, list_all, Var, ascends, variables_of, var_cmp, RowContents, Name, are_distinct, are_known, are_sound, columns_in, have_distinct_columns, is_among, names_of_rows, all-among, all-each, all-numbered, all-weaker, chosen, chosen-distinct, distinct-rising, one_if, lettered, column_of, cost_of_column, is_cost, place_of, program_of_contents, program_row}
 use Rattle.mps_reading.proofs.Places.{places-rise}
 use Rattle.mps_reading.proofs.Sections.{column_entries, column_letter, cost_entry, entries_for, free_name, has_side, named_row, row_letter, side_of}
 use Rattle.mps_reading.proofs.Stated.{IsUsed, IsWithColumns, all-append, all-flat_map, all-if, columns-named, map-map, map-singles, rows-of}
 use Rattle.mps_reading.proofs.Whole.{statements_of_rows}
-use Rattle.mps_reading.specs.RowPrograms.{column_of, cost_of_column, is_cost, place_of, program_of_contents, program_row}
 use Rattle.mps_writer.specs.MpsText as writer
 
 -- ---- tests of lists

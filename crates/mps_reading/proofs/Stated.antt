@@ -1,23 +1,9 @@
 -- The program that the text states is that of the rows.
-use Rattle.std.proofs.Common.{◌≡◌, ℕ, ◌+◌, ◌≤◌, ◌^◌, Bool, true, false, not, cond, List, [], ◌∷◌, ◌++◌, length, map, Some, None, refl, ap, sym, ◌∙◌, subst, arith, inl, inr, ◌⊎◌, eqb-true}
-use Rattle.std.specs.Prelude.{ℤ, pos, negsuc, codes, unsigned_abs, ◌==◌}
-use Rattle.std.specs.List.{AllByRecursion, enumerate_from, flat_map}
+use Rattle.mps_reading.proofs.Common.{◌≡◌, ℕ, ◌+◌, ◌≤◌, ◌^◌, Bool, true, false, not, cond, List, [], ◌∷◌, ◌++◌, length, map, Some, None, refl, ap, sym, ◌∙◌, subst, arith, inl, inr, ◌⊎◌, eqb-true, ℤ, pos, negsuc, codes, unsigned_abs, ◌==◌, AllByRecursion, enumerate_from, flat_map, append-nil, Var, TOTAL_DISCOUNTED_COST, ascends, is_zero, variables_of, var_cmp, RowContents, Name, column_stated, columns_in, entries_at, is_among, program_stated, row_stated, side_at, ProgramEntry, Statements, AreOfRow, all-chosen, all-columns, all-each, all-entries, all-numbered, all-sides, all-weaker, all-with, entries_at-append, flat_map-same, map-same, numbers_in, one_if, lettered, column_of, cost_of_column, is_cost, letter_of, name_of_column, program_column, program_of_contents, program_row}
 use Rattle.std.specs.Str.{bytes_eq}
-use Rattle.std.proofs.lemmas.List.{append-nil}
-use Rattle.row_core.specs.declared.Var.{Var}
-use Rattle.row_core.specs.declared.kind_numbers.TheConstants.{TOTAL_DISCOUNTED_COST}
-use Rattle.row_core.specs.Numbers.{ascends, is_zero, variables_of}
-use Rattle.row_core.specs.Order.{var_cmp}
-use Rattle.row_core.specs.Contents.{RowContents}
-use Rattle.mps_meaning.specs.Lines.{Name}
-use Rattle.mps_meaning.specs.Reading.{column_stated, columns_in, entries_at, is_among, program_stated, row_stated, side_at}
-use Rattle.mps_meaning.specs.Statements.{ProgramEntry, Statements}
-use Rattle.mps_meaning.proofs.NumberedLaws.{AreOfRow, all-chosen, all-columns, all-each, all-entries, all-numbered, all-sides, all-weaker, all-with, entries_at-append, flat_map-same, map-same, numbers_in, one_if}
-use Rattle.mps_meaning.proofs.PrintedLaws.{lettered}
 use Rattle.mps_reading.proofs.Places.{Among, columns-are, same, same-self}
 use Rattle.mps_reading.proofs.Sections.{column_entries, column_letter, cost_entry, entries_for, entry_at, has_side, named_row, row_letter}
 use Rattle.mps_reading.proofs.Whole.{statements_of_rows}
-use Rattle.mps_reading.specs.RowPrograms.{column_of, cost_of_column, is_cost, letter_of, name_of_column, program_column, program_of_contents, program_row}
 use Rattle.mps_writer.specs.MpsText as writer
 
 -- ---- lists

@@ -1,18 +1,6 @@
 -- The whole text, section after section, and what it states.
-use Rattle.std.proofs.Common.{◌≡◌, ℕ, Bool, true, false, ◌||◌, cond, List, [], ◌∷◌, ◌++◌, map, Some, refl, ap, sym, ◌∙◌, append_assoc}
-use Rattle.std.specs.Prelude.{codes}
-use Rattle.std.specs.List.{enumerate_from, flat_map, list_any}
-use Rattle.std.proofs.lemmas.List.{append-nil}
-use Rattle.model_sets.specs.Members.{SetLists}
-use Rattle.row_core.specs.declared.Var.{Var}
-use Rattle.row_core.specs.Contents.{RowContents}
-use Rattle.mps_meaning.specs.Lines.{Name, is_one_line}
-use Rattle.mps_meaning.specs.Reading.{program_of, program_of_sections, program_of_statements}
+use Rattle.mps_reading.proofs.Common.{◌≡◌, ℕ, Bool, true, false, ◌||◌, cond, List, [], ◌∷◌, ◌++◌, map, Some, refl, ap, sym, ◌∙◌, append_assoc, codes, enumerate_from, flat_map, list_any, append-nil, SetLists, Var, RowContents, Name, is_one_line, program_of, program_of_sections, program_of_statements, Statements, entry_line, free_line, row_line, side_line, Tells, indented, one_line-from_test, tells-append, tells-line, chosen, Makes, States, makes-nothing, makes-section, section_lines}
 use Rattle.mps_meaning.specs.Sections.{Line, Section, lines_that_say, sections_of, with_line}
-use Rattle.mps_meaning.specs.Statements.{Statements, entry_line, free_line, row_line, side_line}
-use Rattle.mps_meaning.proofs.LineLaws.{Tells, indented, one_line-from_test, tells-append, tells-line}
-use Rattle.mps_meaning.proofs.NumberedLaws.{chosen}
-use Rattle.mps_meaning.proofs.SectionLaws.{Makes, States, makes-nothing, makes-section, section_lines}
 use Rattle.mps_reading.proofs.Sections.{column_entries, free_name, has_side, named_row, side_of}
 use Rattle.mps_writer.specs.MpsText as writer
 

@@ -1,21 +1,5 @@
 -- The lines of columns, made in one pass over the entries in the order of their variables, are those of the rows.
-use Rattle.std.proofs.Common.{◌≡◌, ℕ, ◌+◌, ◌<◌, List, [], ◌∷◌, ◌++◌, Bool, true, false, cond, length, drop, get_or, refl, ap, sym, ◌∙◌, subst, map}
-use Rattle.std.specs.declared.cmp.Ordering.{Ordering}
-use Rattle.std.specs.declared.cmp.Ordering.TheVariants.{Less, Equal, Greater}
-use Rattle.std.specs.List.{AllByRecursion, filter, flat_map, enumerate_from}
-use Rattle.std.specs.Ordering.{is_lt, is_eq, ordering_reverse}
-use Rattle.std.specs.Prelude.{ℤ}
-use Rattle.std.proofs.lemmas.Grind.{flat_map-append}
-use Rattle.std.proofs.lemmas.List.{at_drop_more}
-use Rattle.std.proofs.lemmas.List.Elements.{filter-append}
-use Rattle.model_sets.specs.Members.{SetLists}
-use Rattle.row_core.specs.declared.Var.{Var}
-use Rattle.row_core.specs.Order.{var_cmp}
-use Rattle.row_core.specs.Contents.{RowContents}
-use Rattle.row_core.proofs.Orders.{var_cmp_total}
-use Rattle.mps_writer.specs.declared.entries.Entry.{Entry}
-use Rattle.mps_writer.specs.Entries.{entry_of, row_entries, entries_of, is_of, is_after, RisesFrom, Rises, AreSorted, following, lines_of, column_text}
-use Rattle.mps_writer.specs.MpsText.{numbered, entry_line, entry_lines, column_head, column_lines, is_same_variable}
+use Rattle.mps_writer.proofs.Common.{◌≡◌, ℕ, ◌+◌, ◌<◌, List, [], ◌∷◌, ◌++◌, Bool, true, false, cond, length, drop, get_or, refl, ap, sym, ◌∙◌, subst, map, Ordering, Less, Equal, Greater, AllByRecursion, filter, flat_map, enumerate_from, is_lt, is_eq, ordering_reverse, ℤ, flat_map-append, at_drop_more, filter-append, SetLists, Var, var_cmp, RowContents, var_cmp_total, Entry, entry_of, row_entries, entries_of, is_of, is_after, RisesFrom, Rises, AreSorted, following, lines_of, column_text, numbered, entry_line, entry_lines, column_head, column_lines, is_same_variable}
 use Rattle.mps_writer.proofs.SameVariables.{later, same-is}
 
 -- the line of an entry in column j

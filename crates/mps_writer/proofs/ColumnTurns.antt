@@ -1,18 +1,6 @@
 -- A turn of the loop over the columns.
-use Rattle.std.proofs.Common.{◌≡◌, ℕ, zero, suc, ◌+◌, ◌<◌, List, [], ◌∷◌, ◌++◌, true, length, drop, get_or, ap, sym, ◌∙◌, append_assoc}
-use Rattle.std.specs.declared.cmp.Ordering.TheVariants.{Less}
-use Rattle.std.specs.List.{flat_map, enumerate_from}
-use Rattle.std.specs.Ordering.{is_lt}
-use Rattle.std.proofs.lemmas.List.{at_drop_more}
-use Rattle.model_sets.specs.Members.{SetLists}
-use Rattle.row_core.specs.declared.Var.{Var}
-use Rattle.row_core.specs.Numbers.{ascends}
-use Rattle.row_core.specs.Order.{var_cmp}
+use Rattle.mps_writer.proofs.Common.{◌≡◌, ℕ, zero, suc, ◌+◌, ◌<◌, List, [], ◌∷◌, ◌++◌, true, length, drop, get_or, ap, sym, ◌∙◌, append_assoc, Less, flat_map, enumerate_from, is_lt, at_drop_more, SetLists, Var, ascends, var_cmp, var_cmp_total, Entry, Rises, following, column_text, lines_of, column_head}
 use Rattle.row_core.proofs.AscendingLaws.{both_passed, Less-from_test, ascends-tail}
-use Rattle.row_core.proofs.Orders.{var_cmp_total}
-use Rattle.mps_writer.specs.declared.entries.Entry.{Entry}
-use Rattle.mps_writer.specs.Entries.{Rises, following, column_text, lines_of}
-use Rattle.mps_writer.specs.MpsText.{column_head}
 use Rattle.mps_writer.proofs.ColumnText.{AllAfter, lines-filter, columns-following}
 
 all_after-earlier : (u v : Var) (ws : List Var) → var_cmp u v ≡ Less → AllAfter v ws → AllAfter u ws

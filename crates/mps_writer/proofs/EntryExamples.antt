@@ -1,15 +1,6 @@
 -- Entries that are rearranged, and equations that have right sides: examples, and near misses.
 use Rattle.std.proofs.Common.{◌≡◌, ℕ, Bool, true, false, pos, List, [], ◌∷◌, cond, filter, length, nat_eq, eqb-true, refl, ap, sym, ◌∙◌, subst, arith, true≢false}
-use Rattle.std.specs.Prelude.{slice_index_or}
-use Rattle.std.proofs.lemmas.List.Sorted.{IsPermutation-swap, length_permutation}
-use Rattle.std.proofs.Math.ListN.{replicate}
-use Rattle.row_core.specs.declared.Var.{Var}
-use Rattle.row_core.specs.Names.{new_capacity}
-use Rattle.row_core.specs.Contents.{RowContents}
-use Rattle.row_core.specs.Sources.{rows_of_equation}
-use Rattle.mps_writer.specs.declared.entries.Entry.{Entry}
-use Rattle.mps_writer.specs.Entries.{IsRearranged, entry_of, is_of}
-use Rattle.mps_writer.specs.SectionLines.{AreSidesOf, HasNoSides}
+use Rattle.mps_writer.proofs.Common.{slice_index_or, IsPermutation-swap, length_permutation, replicate, Var, new_capacity, RowContents, rows_of_equation, Entry, IsRearranged, entry_of, is_of, AreSidesOf, HasNoSides}
 use Rattle.mps_writer.proofs.MpsTextExamples.{caa1_2020, caa2_2020}
 use Rattle.mps_writer.proofs.SameVariables.{same-is}
 

@@ -1,22 +1,7 @@
 -- The columns of the variables over the entries of their kinds are those of the rows.
 use Rattle.std.proofs.Common.{◌≡◌, ℕ, ◌+◌, ◌<◌, ◌≤◌, ◌-◌, Bool, true, false, ◌||◌, cond, nat_eq, List, [], ◌∷◌, ◌++◌, drop, filter, length, map, refl, ap, ap₂, sym, ◌∙◌, subst, arith, append_assoc, eq-eqb}
-use Rattle.std.specs.List.{AllByRecursion, flat_map, list_any, range_with_len}
-use Rattle.std.specs.Prelude.{ℤ}
-use Rattle.std.proofs.lemmas.Grind.{flat_map-append}
-use Rattle.std.proofs.lemmas.List.{append-nil}
-use Rattle.std.proofs.lemmas.List.Elements.{filter-append}
-use Rattle.model_sets.specs.Members.{SetLists}
-use Rattle.row_core.specs.declared.Var.{Var}
-use Rattle.row_core.specs.Numbers.{ascends}
-use Rattle.row_core.specs.Order.{var_cmp}
-use Rattle.row_core.specs.Contents.{RowContents}
-use Rattle.row_core.specs.Sources.{AreInOrder, has_entry_of, has_kind, rows_of_equation}
-use Rattle.row_core.proofs.EquationLaws.{equations-in_turn, none-of_kind}
-use Rattle.mps_writer.specs.declared.entries.Entry.{Entry}
+use Rattle.mps_writer.proofs.Common.{AllByRecursion, flat_map, list_any, range_with_len, ℤ, flat_map-append, append-nil, filter-append, SetLists, Var, ascends, var_cmp, RowContents, AreInOrder, has_entry_of, has_kind, rows_of_equation, equations-in_turn, none-of_kind, Entry, AreSorted, HasEquation, Rises, entries_of, entries_of_kind, entry_of, following, is_of, is_of_kind, lines_of, row_entries, Serves, IsNamedVariable, column_head, column_lines, numbered}
 use Rattle.mps_writer.specs.declared.sent_columns.Gathered.{Gathered}
-use Rattle.mps_writer.specs.Entries.{AreSorted, HasEquation, Rises, entries_of, entries_of_kind, entry_of, following, is_of, is_of_kind, lines_of, row_entries}
-use Rattle.mps_writer.specs.Gathered.{Serves}
-use Rattle.mps_writer.specs.MpsText.{IsNamedVariable, column_head, column_lines, numbered}
 use Rattle.mps_writer.proofs.ColumnText.{AllAfter, following-filter, following-rises, lines-filter, line_in, rows-lines}
 use Rattle.mps_writer.proofs.ColumnTurns.{all_after}
 use Rattle.mps_writer.proofs.SameVariables.{same-is}

@@ -1,3 +1,4 @@
+mod Common
 mod ColumnText
 mod ColumnTurns
 mod EntryExamples

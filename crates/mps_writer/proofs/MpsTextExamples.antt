@@ -1,18 +1,12 @@
 -- The MPS text, computed on the rows of a worked example, and on near misses.
-use Rattle.std.proofs.Common.{◌≡◌, ℕ, ◌^◌, true, false, Bool, List, [], ◌∷◌, refl}
+use Rattle.mps_writer.proofs.Common.{◌≡◌, ℕ, ◌^◌, true, false, Bool, List, [], ◌∷◌, refl, digits, Var, new_capacity, accumulated_new_capacity, total_capacity_annual, caa1, caa2, SetLists, RowContents, mps_text, rows_text, row_lines, column_lines, rhs_line, numbered, bounds}
 use Rattle.std.specs.Prelude.{ℤ, pos, negsuc, codes, ◌-◌}
-use Rattle.std.specs.Fmt.{digits}
 use Rattle.std.specs.Str.{bytes_eq}
 use Rattle.row_core.specs.declared.Index.{Index}
-use Rattle.row_core.specs.declared.Var.{Var}
 use Rattle.row_core.specs.declared.RowName.{RowName}
 use Rattle.row_core.specs.declared.Sense.{Sense}
 use Rattle.row_core.specs.declared.Sense.TheVariants.{Least, Equal, Most}
-use Rattle.row_core.specs.Names.{new_capacity, accumulated_new_capacity, total_capacity_annual, caa1, caa2}
 use Rattle.row_core.specs.NameTexts.{variable_name, row_name}
-use Rattle.model_sets.specs.Members.{SetLists}
-use Rattle.row_core.specs.Contents.{RowContents}
-use Rattle.mps_writer.specs.MpsText.{mps_text, rows_text, row_lines, column_lines, rhs_line, numbered, bounds}
 
 -- what a row of this name says
 abbrev pub says : RowName → Sense → List (Var × ℤ) → ℤ → RowContents

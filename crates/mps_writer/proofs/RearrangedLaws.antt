@@ -1,18 +1,9 @@
 -- Entries that are rearranged, with those of each variable in their order.
-use Rattle.std.proofs.Common.{◌≡◌, ℕ, List, [], ◌∷◌, ◌++◌, Bool, true, false, not, ◌&&◌, cond, length, take, refl, ap, ap₂, sym, ◌∙◌, subst}
-use Rattle.std.specs.declared.cmp.Ordering.{Ordering}
-use Rattle.std.specs.declared.cmp.Ordering.TheVariants.{Less, Equal, Greater}
-use Rattle.std.specs.List.{filter}
+use Rattle.mps_writer.proofs.Common.{◌≡◌, ℕ, List, [], ◌∷◌, ◌++◌, Bool, true, false, not, ◌&&◌, cond, length, take, refl, ap, ap₂, sym, ◌∙◌, subst, Ordering, Less, Equal, Greater, filter, is_lt, nat_cmp, ordering_reverse, filter-append, IsPermutation-append, IsPermutation-refl, IsPermutation-trans, length_permutation, take-append_seam, Entry, AreSorted, IsRearranged, is_of}
 use Rattle.std.specs.List.Sorted.{IsPermutation, IsStableByKey, ties}
-use Rattle.std.specs.Ordering.{is_lt, nat_cmp, ordering_reverse}
 use Rattle.std.specs.Prelude.{pos}
 use Rattle.std.proofs.lemmas.Cmp.{nat_cmp_total}
-use Rattle.std.proofs.lemmas.List.Elements.{filter-append}
-use Rattle.std.proofs.lemmas.List.Sorted.{IsPermutation-append, IsPermutation-refl, IsPermutation-trans, length_permutation}
-use Rattle.std.proofs.Math.Seq.{take-append_seam}
 use Rattle.row_core.specs.SortKeys.{sort_key}
-use Rattle.mps_writer.specs.declared.entries.Entry.{Entry}
-use Rattle.mps_writer.specs.Entries.{AreSorted, IsRearranged, is_of}
 use Rattle.mps_writer.proofs.SameVariables.{same-is}
 
 -- left as they are

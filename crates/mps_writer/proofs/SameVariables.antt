@@ -1,12 +1,5 @@
 -- When two variables are the same, and which is before the other.
-use Rattle.std.proofs.Common.{◌≡◌, true, false, refl, ap}
-use Rattle.std.specs.declared.cmp.Ordering.{Ordering}
-use Rattle.std.specs.declared.cmp.Ordering.TheVariants.{Less, Equal, Greater}
-use Rattle.std.specs.Ordering.{is_lt, is_eq, ordering_reverse}
-use Rattle.row_core.specs.declared.Var.{Var}
-use Rattle.row_core.specs.Order.{var_cmp}
-use Rattle.row_core.proofs.Orders.{var_cmp_total, var_cmp_exact}
-use Rattle.mps_writer.specs.MpsText.{is_same_variable}
+use Rattle.mps_writer.proofs.Common.{◌≡◌, true, false, refl, ap, Ordering, Less, Equal, Greater, is_lt, is_eq, ordering_reverse, Var, var_cmp, var_cmp_total, var_cmp_exact, is_same_variable}
 
 -- v is before w where w isn't before v and isn't v
 later-by : (o p : Ordering) → p ≡ ordering_reverse o → is_lt o ≡ false → is_eq o ≡ false → p ≡ Less

@@ -1,16 +1,5 @@
 -- The lines of a section, equation by equation.
-use Rattle.std.proofs.Common.{◌≡◌, ℕ, suc, ◌+◌, ◌-◌, ◌<◌, ◌≤◌, List, [], ◌∷◌, ◌++◌, codes, refl, ap, sym, ◌∙◌, append_assoc, arith}
-use Rattle.std.specs.List.{AllByRecursion, flat_map, range_with_len}
-use Rattle.std.proofs.lemmas.Grind.{flat_map-append}
-use Rattle.model_sets.specs.Members.{SetLists}
-use Rattle.row_core.specs.Contents.{RowContents}
-use Rattle.row_core.specs.Sources.{AreInOrder, rows_of_equation}
-use Rattle.row_core.proofs.EquationLaws.{equations-in_turn}
-use Rattle.mps_writer.specs.Entries.{HasEquation}
-use Rattle.row_core.specs.declared.Var.{Var}
-use Rattle.mps_writer.specs.MpsText.{IsNamedRow, bounds, column_lines, line, numbered, rhs_line, row_lines, sections_text}
-use Rattle.mps_writer.specs.SectionLines.{lines_in}
-use Rattle.mps_writer.specs.declared.sections.Section.{Section}
+use Rattle.mps_writer.proofs.Common.{◌≡◌, ℕ, suc, ◌+◌, ◌-◌, ◌<◌, ◌≤◌, List, [], ◌∷◌, ◌++◌, codes, refl, ap, sym, ◌∙◌, append_assoc, arith, AllByRecursion, flat_map, range_with_len, flat_map-append, SetLists, RowContents, AreInOrder, rows_of_equation, equations-in_turn, HasEquation, Var, IsNamedRow, bounds, column_lines, line, numbered, rhs_line, row_lines, sections_text, lines_in, Section}
 
 -- the lines of an equation's rows
 abbrev pub equation_lines : Section → SetLists → List RowContents → ℕ → List ℕ

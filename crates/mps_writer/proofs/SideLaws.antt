@@ -1,18 +1,7 @@
 -- The equations that have right sides.
 use Rattle.std.proofs.Common.{◌≡◌, ◌≢◌, ◌⊎◌, ℕ, ◌<◌, Bool, true, false, not, ◌||◌, ℤ, List, [], ◌∷◌, ◌++◌, codes, get_or, set, refl, ap, ap₂, sym, subst, ◌∙◌, inl, inr, arith}
-use Rattle.std.specs.List.{flat_map}
-use Rattle.std.proofs.Math.ListN.{replicate}
-use Rattle.std.specs.Fmt.{signed_decimal}
-use Rattle.std.specs.Prelude.{if◌then◌else◌}
+use Rattle.mps_writer.proofs.Common.{flat_map, replicate, signed_decimal, if◌then◌else◌, get_or-replicate, get_or-set_other, get_or-set_same, length-replicate, length-set, SetLists, is_zero, RowContents, rows_of_equation, line, rhs_line, rhs_line_of, row_label, AreSidesOf, HasNoSides, is_of_sides, lines_in, Section}
 use Rattle.std.proofs.lemmas.Bool.{cases_lt}
-use Rattle.std.proofs.lemmas.List.{get_or-replicate, get_or-set_other, get_or-set_same, length-replicate, length-set}
-use Rattle.model_sets.specs.Members.{SetLists}
-use Rattle.row_core.specs.Numbers.{is_zero}
-use Rattle.row_core.specs.Contents.{RowContents}
-use Rattle.row_core.specs.Sources.{rows_of_equation}
-use Rattle.mps_writer.specs.MpsText.{line, rhs_line, rhs_line_of, row_label}
-use Rattle.mps_writer.specs.SectionLines.{AreSidesOf, HasNoSides, is_of_sides, lines_in}
-use Rattle.mps_writer.specs.declared.sections.Section.{Section}
 use Rattle.mps_writer.specs.declared.sections.Section.TheVariants.{Rows, RightSides}
 
 same_or_not : (i k : ℕ) → (i ≡ k) ⊎ (i ≢ k)

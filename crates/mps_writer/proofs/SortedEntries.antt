@@ -1,16 +1,6 @@
 -- What a stable sort by variable says of entries.
-use Rattle.std.proofs.Common.{◌≡◌, ℕ, suc, ◌+◌, ◌<◌, List, [], ◌∷◌, Bool, true, false, not, ◌&&◌, cond, length, get_or, refl, ap, sym, ◌∙◌, arith}
-use Rattle.std.specs.declared.cmp.Ordering.{Ordering}
-use Rattle.std.specs.declared.cmp.Ordering.TheVariants.{Less, Equal, Greater}
-use Rattle.std.specs.List.{filter}
-use Rattle.std.specs.List.Sorted.{IsSortedByKey, IsStableByKey, ties}
-use Rattle.std.specs.Ordering.{is_lt, is_eq, ordering_reverse}
+use Rattle.mps_writer.proofs.Common.{◌≡◌, ℕ, suc, ◌+◌, ◌<◌, List, [], ◌∷◌, Bool, true, false, not, ◌&&◌, cond, length, get_or, refl, ap, sym, ◌∙◌, arith, Ordering, Less, Equal, Greater, filter, IsSortedByKey, IsStableByKey, ties, is_lt, is_eq, ordering_reverse, Var, var_cmp, var_cmp_total, Entry, RisesFrom, Rises, is_of}
 use Rattle.std.specs.Prelude.{pos}
-use Rattle.row_core.specs.declared.Var.{Var}
-use Rattle.row_core.specs.Order.{var_cmp}
-use Rattle.row_core.proofs.Orders.{var_cmp_total}
-use Rattle.mps_writer.specs.declared.entries.Entry.{Entry}
-use Rattle.mps_writer.specs.Entries.{RisesFrom, Rises, is_of}
 
 -- the variable of an entry
 abbrev pub variable_of : Entry → Var

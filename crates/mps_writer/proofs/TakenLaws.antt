@@ -1,13 +1,6 @@
 -- A text that goes into a sink part by part.
-use Rattle.std.proofs.Common.{◌≡◌, ℕ, zero, suc, ◌+◌, ◌≤◌, List, [], ◌++◌, length, take, drop, refl, ap, sym, ◌∙◌, subst, append_assoc, arith, ◌∷◌}
-use Rattle.std.specs.List.{flat_map}
-use Rattle.std.specs.Prelude.{Result, Ok, Err, OnErr, OnOk}
-use Rattle.std.proofs.lemmas.List.{append-nil, take-append-drop}
-use Rattle.std.proofs.Math.Seq.{drop-nil}
+use Rattle.mps_writer.proofs.Common.{◌≡◌, ℕ, zero, suc, ◌+◌, ◌≤◌, List, [], ◌++◌, length, take, drop, refl, ap, sym, ◌∙◌, subst, append_assoc, arith, ◌∷◌, flat_map, Result, Ok, Err, OnErr, OnOk, append-nil, take-append-drop, drop-nil, Output, Took, TookPrefix, took-both, took-first, took-nothing, took-same, CutsOf, Fails, LeavesOf, Takes}
 use Rattle.io_edges.specs.Count.{Rose}
-use Rattle.io_edges.specs.Outputs.{Output, Took, TookPrefix}
-use Rattle.io_edges.proofs.OutputLaws.{took-both, took-first, took-nothing, took-same}
-use Rattle.mps_writer.specs.Steps.{CutsOf, Fails, LeavesOf, Takes}
 use Rattle.mps_writer.specs.declared.sending.MpsFail.{MpsFail}
 use Rattle.mps_writer.specs.declared.sending.MpsFail.TheVariants.{Write, Memory}
 

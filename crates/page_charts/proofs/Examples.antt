@@ -1,12 +1,8 @@
 -- The definitions, computed on small examples, and on near misses.
-use Rattle.std.proofs.Common.{◌≡◌, pos, negsuc, [], ◌∷◌, None, Some, refl, ap, arith, get_or}
+use Rattle.page_charts.proofs.Common.{◌≡◌, pos, negsuc, [], ◌∷◌, None, Some, refl, ap, arith, get_or, escaped, left_of, slot_of, step_at, steps_over, width_of, x_of, cell_text, decimal_text, in_threes, share_text, short_text, brief_text}
 use Rattle.std.specs.Prelude.{codes}
 use Rattle.std.specs.Fmt.{digits}
-use Rattle.page_charts.specs.Escaping.{escaped}
-use Rattle.page_charts.specs.Frames.{left_of, slot_of, step_at, steps_over, width_of, x_of}
-use Rattle.page_charts.specs.Numbers.{cell_text, decimal_text, in_threes, share_text, short_text}
 use Rattle.page_charts.specs.Openings.{BeginsWith, first_lines}
-use Rattle.page_charts.specs.Ticks.{brief_text}
 
 -- ---- names
 

@@ -1,10 +1,7 @@
 -- Blocks one after another are the whole list.
-use Rattle.std.proofs.Common.{◌≡◌, ℕ, zero, suc, ◌+◌, ◌*◌, List, [], ◌∷◌, ◌++◌, length, take, drop, sym, ap, ◌∙◌, refl, arith}
-use Rattle.std.specs.List.{flat_map, range_with_len}
+use Rattle.page_charts.proofs.Common.{◌≡◌, ℕ, zero, suc, ◌+◌, ◌*◌, List, [], ◌∷◌, ◌++◌, length, take, drop, sym, ap, ◌∙◌, refl, arith, flat_map, range_with_len, append-nil, take_all, block_count, blocks, part}
 use Rattle.std.proofs.Math.Seq.{take-add}
 use Rattle.std.proofs.lemmas.Grind.{flat_map-append}
-use Rattle.std.proofs.lemmas.List.{append-nil, take_all}
-use Rattle.page_charts.specs.Folds.{block_count, blocks, part}
 use Rattle.page_charts.proofs.RangeLaws.{range_more}
 
 -- the first blocks have the first values

@@ -1,9 +1,6 @@
 -- Heights: order and edges.
-use Rattle.std.proofs.Common.{ℕ, ◌+◌, ◌-◌, ◌*◌, ◌/◌, ◌<◌, ◌≤◌, ℤ, pos, negsuc, ◌≤ℤ◌, arith}
-use Rattle.std.proofs.Math.Nat.{le-div_iff_mul-le, div-mul-le_self, lt-div-mul-add}
+use Rattle.page_charts.proofs.Common.{ℕ, ◌+◌, ◌-◌, ◌*◌, ◌/◌, ◌<◌, ◌≤◌, ℤ, pos, negsuc, ◌≤ℤ◌, arith, le-div_iff_mul-le, div-mul-le_self, lt-div-mul-add, Frame, below_top, steps_to}
 use Rattle.std.proofs.lemmas.Int.{ints}
-use Rattle.page_charts.specs.declared.frames.Frame.{Frame}
-use Rattle.page_charts.specs.Frames.{below_top, steps_to}
 
 -- a quotient rises with what is divided
 pub quotient_rises : (a b n : ℕ) → 0 < n → a ≤ b → a / n ≤ b / n

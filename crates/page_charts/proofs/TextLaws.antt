@@ -1,9 +1,7 @@
 -- What is written of a name has no byte of markup.
-use Rattle.std.proofs.Common.{◌≡◌, ℕ, Bool, false, ◌||◌, List, [], ◌∷◌, ap, ◌∙◌, refl, arith}
-use Rattle.std.specs.List.{list_any}
+use Rattle.page_charts.proofs.Common.{◌≡◌, ℕ, Bool, false, ◌||◌, List, [], ◌∷◌, ap, ◌∙◌, refl, arith, list_any, escaped, escaped_byte, is_markup}
 use Rattle.std.proofs.lemmas.List.Folds.{list_any-append}
 use Rattle.std.proofs.lemmas.Bool.Decides.{nat_tests}
-use Rattle.page_charts.specs.Escaping.{escaped, escaped_byte, is_markup}
 
 clean_byte : (b : ℕ) → list_any is_markup (escaped_byte b) ≡ false
 clean_byte b = grind (arith, nat_tests)

@@ -1,26 +1,9 @@
 -- The definitions, computed on a model with one member in each set, and on near misses.
-use Rattle.std.proofs.Common.{◌≡◌, pos, false, List, [], ◌∷◌, Some, None, inl, inr, refl, arith}
-use Rattle.std.specs.Prelude.{codes}
+use Rattle.plan_files.proofs.Common.{◌≡◌, pos, false, List, [], ◌∷◌, Some, None, inl, inr, refl, arith, codes, next_record, records_from, strip_bom, fields_text, is_blank, gcd_of, gcd_within, all_fit, in_range, lowest, pair, SetLists, RowName, Var, Quotient, fraction_text, BadRecord, Missing, Twice, Breaks, BreaksFirst, IsPlan, IsPlanFault, first_missing, variable_names, Fields, HasValue, IsRight, records_of, header, plan_records, row_fields, variable_fields, records_text}
 use Rattle.std.specs.Fmt.{digits}
-use Rattle.csv.specs.Machine.{next_record}
-use Rattle.csv.specs.Reading.{records_from, strip_bom}
-use Rattle.csv.specs.Writing.{fields_text, is_blank}
-use Rattle.exact_num.specs.Gcd.{gcd_of, gcd_within}
-use Rattle.exact_num.specs.Range.{all_fit, in_range}
-use Rattle.exact_num.specs.Rational.{lowest, pair}
-use Rattle.model_sets.specs.Members.{SetLists}
-use Rattle.row_core.specs.declared.RowName.{RowName}
-use Rattle.row_core.specs.declared.Var.{Var}
 use Rattle.row_core.specs.declared.equation_numbers.TheConstants.{CAA4}
 use Rattle.row_core.specs.declared.kind_numbers.TheConstants.{NEW_CAPACITY}
 use Rattle.scaled_decimals.specs.Digits.{number_of}
-use Rattle.scaled_decimals.specs.FractionText.{Quotient}
-use Rattle.scaled_decimals.specs.PrintedFraction.{fraction_text}
-use Rattle.plan_files.specs.declared.faults.PlanFault.TheVariants.{BadRecord, Missing, Twice}
-use Rattle.plan_files.specs.Answers.{Breaks, BreaksFirst, IsPlan, IsPlanFault, first_missing, variable_names}
-use Rattle.plan_files.specs.Files.{Fields, HasValue, IsRight, records_of}
-use Rattle.plan_files.specs.Records.{header, plan_records, row_fields, variable_fields}
-use Rattle.plan_files.specs.Texts.{records_text}
 
 abbrev sets : SetLists
 sets = (codes "R" ∷ []) ∷ (codes "T" ∷ []) ∷ (codes "F" ∷ []) ∷ [] ∷ (codes "1" ∷ []) ∷ (codes "D" ∷ []) ∷ (codes "2020" ∷ []) ∷ [] ∷ [] ∷ [] ∷ [] ∷ []

@@ -1,6 +1,5 @@
 -- The field at a place, as `csv` looks it up.
-use Rattle.std.proofs.Common.{◌≡◌, ℕ, zero, suc, List, [], ◌∷◌, Option, Some, None, get_or, refl, sym, ap, ◌∙◌}
-use Rattle.csv.specs.Records.{field_at}
+use Rattle.plan_files.proofs.Common.{◌≡◌, ℕ, zero, suc, List, [], ◌∷◌, Option, Some, None, get_or, refl, sym, ap, ◌∙◌, field_at}
 
 abbrev field_or : Option (List ℕ) → List ℕ
 field_or None = []

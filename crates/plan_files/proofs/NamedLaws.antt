@@ -1,14 +1,5 @@
 -- Variables and rows of the sets, by the fields of a record.
-use Rattle.std.proofs.Common.{◌≡◌, ℕ, Bool, List, [], ◌∷◌, map, get_or, sym, ap, ◌∙◌, subst}
-use Rattle.model_sets.specs.Members.{SetLists}
-use Rattle.row_core.specs.declared.RowName.{RowName}
-use Rattle.row_core.specs.declared.Var.{Var}
-use Rattle.row_core.specs.Equations.{equation_at, equation_has}
-use Rattle.row_core.specs.Kinds.{kind_at, kind_has}
-use Rattle.plan_files.specs.Files.{Fields, field, name_of, subscripts_in}
-use Rattle.plan_files.specs.Listed.{IsListedRow, IsListedVariable}
-use Rattle.plan_files.specs.Reading.{IsIndexOf}
-use Rattle.plan_files.specs.Records.{places, row_fields, variable_fields}
+use Rattle.plan_files.proofs.Common.{◌≡◌, ℕ, Bool, List, [], ◌∷◌, map, get_or, sym, ap, ◌∙◌, subst, SetLists, RowName, Var, equation_at, equation_has, kind_at, kind_has, Fields, field, name_of, subscripts_in, IsListedRow, IsListedVariable, IsIndexOf, places, row_fields, variable_fields}
 use Rattle.plan_files.proofs.SubscriptLaws.{index_by_fields}
 use Rattle.plan_files.proofs.WithinLaws.{within_at}
 

@@ -1,26 +1,16 @@
 -- The printed form of a value is a text with that value.
-use Rattle.std.proofs.Common.{◌≡◌, ◌≢◌, ℕ, ◌*◌, ◌<◌, ◌≤◌, ◌^◌, pos, zero, suc, Bool, true, false, List, [], ◌∷◌, Result, Ok, Err, refl, sym, ap, ◌∙◌, arith}
-use Rattle.std.specs.Prelude.{unsigned_abs}
-use Rattle.exact_num.specs.Gcd.{gcd_of}
-use Rattle.exact_num.specs.Range.{InRange, all_fit, in_range}
-use Rattle.exact_num.specs.Rational.{Rational, lowest}
-use Rattle.exact_num.specs.Value.{value_of}
-use Rattle.exact_num.specs.declared.fraction.Frac.{Frac}
+use Rattle.plan_files.proofs.Common.{◌≡◌, ◌≢◌, ℕ, ◌*◌, ◌<◌, ◌≤◌, ◌^◌, pos, zero, suc, Bool, true, false, List, [], ◌∷◌, Result, Ok, Err, refl, sym, ap, ◌∙◌, arith, unsigned_abs, gcd_of, InRange, all_fit, in_range, Rational, lowest, value_of, Frac, both_passed, FractionText, SpellsValue, below_of, bottom_of, top_of, fraction_text, HasValue}
 use Rattle.exact_num.proofs.GcdLaws.{gcd_of_pos_right}
 use Rattle.exact_num.proofs.Integers.{unsigned_abs-signed_by}
 use Rattle.exact_num.proofs.RangeLaws.{InRange-from_test}
 use Rattle.std.proofs.Math.Nat.{le-mul_of_pos_right}
 use Rattle.std.proofs.lemmas.Int.{unsigned_abs-mul}
 use Rattle.exact_num.proofs.StepLaws.{all_fit-cons}
-use Rattle.row_core.proofs.AscendingLaws.{both_passed}
 use Rattle.exact_num.proofs.RationalLaws.{lowest-IsLowest, lowest-bottom, lowest-top}
 use Rattle.scaled_decimals.specs.declared.reading.DecFault.{DecFault}
 use Rattle.scaled_decimals.specs.declared.reading.DecFault.TheVariants.{TooLarge}
-use Rattle.scaled_decimals.specs.FractionText.{FractionText, SpellsValue, below_of, bottom_of, top_of}
-use Rattle.scaled_decimals.specs.PrintedFraction.{fraction_text}
 use Rattle.scaled_decimals.specs.PrintedParts.{printed_parts}
 use Rattle.scaled_decimals.proofs.InverseLaws.{inverse, spelled}
-use Rattle.plan_files.specs.Files.{HasValue}
 
 -- the numbers as written fit, for else the text would be refused
 printed_fits : (v : Frac) → all_fit (top_of (printed_parts (value_of v)) ∷ bottom_of (printed_parts (value_of v)) ∷ []) ≡ true

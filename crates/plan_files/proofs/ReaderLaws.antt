@@ -1,11 +1,6 @@
 -- What a read of a record does to the records that a reader has left.
-use Rattle.std.proofs.Common.{◌≡◌, ℕ, Bool, true, false, List, [], ◌∷◌, Bor, Option, Some, inl, refl, sym, ap, ap₂, ◌∙◌}
-use Rattle.csv.specs.Machine.{ends_at_end}
-use Rattle.csv.specs.Reading.{ReadRecord, Reached, default_config, reader_state, took_first}
-use Rattle.csv.specs.declared.reader.Reader.{Reader}
+use Rattle.plan_files.proofs.Common.{◌≡◌, ℕ, Bool, true, false, List, [], ◌∷◌, Bor, Option, Some, inl, refl, sym, ap, ap₂, ◌∙◌, ends_at_end, ReadRecord, Reached, default_config, reader_state, took_first, Reader, Fields, HasLeft, IsNext}
 use Rattle.csv.proofs.ReadFacts.{rows-end, rows-more}
-use Rattle.plan_files.specs.Files.{Fields}
-use Rattle.plan_files.specs.Reading.{HasLeft, IsNext}
 use Rattle.plan_files.proofs.RecordSteps.{first_of, left_records, none_left}
 
 abbrev known : Bor (List ℕ) → Option (List ℕ)

@@ -1,27 +1,8 @@
 -- Records that were written are read again.
-use Rattle.std.proofs.Common.{◌≡◌, suc, Bool, true, false, List, [], ◌∷◌, ◌++◌, length, map, filter, Option, Some, None, refl, sym, ap, ap₂, ◌∙◌, subst, arith, if◌then◌else◌}
-use Rattle.std.specs.Prelude.{Contains, is_some}
-use Rattle.std.specs.Cmp.{IsTotalOrder}
-use Rattle.std.specs.List.{AllByRecursion}
-use Rattle.std.specs.Ordering.{is_lt}
-use Rattle.std.specs.declared.cmp.Ordering.{Ordering}
+use Rattle.plan_files.proofs.Common.{◌≡◌, suc, Bool, true, false, List, [], ◌∷◌, ◌++◌, length, map, filter, Option, Some, None, refl, sym, ap, ap₂, ◌∙◌, subst, arith, if◌then◌else◌, Contains, is_some, IsTotalOrder, AllByRecursion, is_lt, Ordering, next_record, strip_bom, default_writer, read_back, row_text, Rational, value_of, Frac, ascends, keys_of, valued, Less-from_test, ascends-skip, ascends-tail, both_passed, fraction_text, AreGiven, AreRightAfter, Fields, GivesValue, HasValue, field, is_named_in, name_of, record_of, records_of, header, records_text}
 use Rattle.std.specs.declared.cmp.Ordering.TheVariants.{Less}
-use Rattle.csv.specs.Machine.{next_record}
-use Rattle.csv.specs.Reading.{strip_bom}
-use Rattle.csv.specs.Writing.{default_writer, read_back, row_text}
 use Rattle.csv.specs.declared.parser.State.TheVariants as st
 use Rattle.csv.proofs.RoundTrip.{read-write}
-use Rattle.exact_num.specs.Rational.{Rational}
-use Rattle.exact_num.specs.Value.{value_of}
-use Rattle.exact_num.specs.declared.fraction.Frac.{Frac}
-use Rattle.row_core.specs.Numbers.{ascends, keys_of}
-use Rattle.row_core.specs.Plans.{valued}
-use Rattle.row_core.proofs.AscendingLaws.{Less-from_test, ascends-skip, ascends-tail, both_passed}
-use Rattle.scaled_decimals.specs.PrintedFraction.{fraction_text}
-use Rattle.plan_files.specs.Answers.{AreGiven}
-use Rattle.plan_files.specs.Files.{AreRightAfter, Fields, GivesValue, HasValue, field, is_named_in, name_of, record_of, records_of}
-use Rattle.plan_files.specs.Records.{header}
-use Rattle.plan_files.specs.Texts.{records_text}
 use Rattle.plan_files.proofs.KeyLaws.{alike_itself, not_less}
 use Rattle.plan_files.proofs.PrintedValue.{printed_value}
 use Rattle.plan_files.proofs.RecordSteps.{first_of, left_records, none_left}

@@ -1,17 +1,8 @@
 -- The records of a file so far, and what the names are given by them.
-use Rattle.std.proofs.Common.{◌≡◌, ℕ, ◌+◌, ◌<◌, true, false, List, [], ◌∷◌, ◌++◌, Bor, length, replicate, Option, None, inl, inr, refl, sym, ap, ◌∙◌, subst, append_assoc, arith, drop, take}
+use Rattle.plan_files.proofs.Common.{◌≡◌, ℕ, ◌+◌, ◌<◌, true, false, List, [], ◌∷◌, ◌++◌, Bor, length, replicate, Option, None, inl, inr, refl, sym, ap, ◌∙◌, subst, append_assoc, arith, drop, take, option_map, append-nil, drop_all, get_or-replicate, length-append, length-replicate, take_all, Reader, value_of, Frac, Breaks, BreaksFirst, IsFailOf, number_after, AreRight, AreRightAfter, Fields, IsRight, AreRead, AreTaken, HasLeft, IsAfterHeader, IsNext, header}
 use Rattle.std.specs.Prelude.{Err}
-use Rattle.std.specs.Option.{option_map}
-use Rattle.std.proofs.lemmas.List.{append-nil, drop_all, get_or-replicate, length-append, length-replicate, take_all}
-use Rattle.csv.specs.declared.reader.Reader.{Reader}
-use Rattle.exact_num.specs.Value.{value_of}
-use Rattle.exact_num.specs.declared.fraction.Frac.{Frac}
 use Rattle.plan_files.specs.declared.faults.PlanFail.{PlanFail}
 use Rattle.plan_files.specs.declared.faults.PlanFail.TheVariants.{Fault, Memory}
-use Rattle.plan_files.specs.Answers.{Breaks, BreaksFirst, IsFailOf, number_after}
-use Rattle.plan_files.specs.Files.{AreRight, AreRightAfter, Fields, IsRight}
-use Rattle.plan_files.specs.Reading.{AreRead, AreTaken, HasLeft, IsAfterHeader, IsNext}
-use Rattle.plan_files.specs.Records.{header}
 
 -- the header was read, and these records after it, each right; the values are those that they give
 pub record IsSoFar (names all : List Fields) (reader : Reader (Bor (List ℕ))) (number : ℕ) (values : List (Option Frac)) : Type 0 where

@@ -1,20 +1,7 @@
 -- A member by its name, and the subscripts that the fields of a record name.
-use Rattle.std.proofs.Common.{◌≡◌, ℕ, zero, suc, ◌+◌, ◌<◌, Bool, true, false, List, [], ◌∷◌, length, map, get_or, position, Option, Some, None, refl, sym, ap, ◌∙◌, subst, arith, if◌then◌else◌}
-use Rattle.std.specs.Prelude.{not, nat_lt}
-use Rattle.std.specs.List.{IsDistinct, position_or_len, prefix_len}
-use Rattle.std.specs.Option.{IfSome}
-use Rattle.std.specs.Str.{bytes_eq}
-use Rattle.std.proofs.lemmas.Bool.{lt-ltb}
+use Rattle.plan_files.proofs.Common.{◌≡◌, ℕ, zero, suc, ◌+◌, ◌<◌, Bool, true, false, List, [], ◌∷◌, length, map, get_or, position, Option, Some, None, refl, sym, ap, ◌∙◌, subst, arith, if◌then◌else◌, not, nat_lt, IsDistinct, position_or_len, prefix_len, IfSome, bytes_eq, lt-ltb, bytes_eq-Decides, SetLists, index_of, members, Index, IsWithin, position_at, set_of, Fields, field, HasUnusedZero, IsIndexOf, IsSubscript, places, subscript_field, subscript_fields}
 use Rattle.std.proofs.lemmas.List.Quantifiers.{position-Some}
 use Rattle.std.proofs.lemmas.Map.Keys.{IsDistinct-head, IsDistinct-tail}
-use Rattle.std.proofs.lemmas.Slice.Eq.{bytes_eq-Decides}
-use Rattle.model_sets.specs.Members.{SetLists, index_of, members}
-use Rattle.row_core.specs.declared.Index.{Index}
-use Rattle.row_core.specs.NameTexts.{IsWithin, position_at, set_of}
-use Rattle.plan_files.specs.Files.{Fields, field}
-use Rattle.plan_files.specs.Listed.{HasUnusedZero}
-use Rattle.plan_files.specs.Reading.{IsIndexOf, IsSubscript}
-use Rattle.plan_files.specs.Records.{places, subscript_field, subscript_fields}
 use Rattle.plan_files.proofs.KeyLaws.{all_at}
 
 -- ---- the position of a name that stands once

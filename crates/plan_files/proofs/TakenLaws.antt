@@ -1,19 +1,8 @@
 -- A record more, and what the records give to names after it.
-use Rattle.std.proofs.Common.{◌≡◌, ℕ, ◌<◌, true, false, List, [], ◌∷◌, ◌++◌, length, get_or, set, Option, Some, None, inl, inr, refl, sym, ap, ◌∙◌, subst, if◌then◌else◌}
-use Rattle.std.specs.Prelude.{Contains, is_some}
+use Rattle.plan_files.proofs.Common.{◌≡◌, ℕ, ◌<◌, true, false, List, [], ◌∷◌, ◌++◌, length, get_or, set, Option, Some, None, inl, inr, refl, sym, ap, ◌∙◌, subst, if◌then◌else◌, Contains, is_some, option_map, option_or, bytes_eq, cases_Bool, cases_eq, get_or_default, get_or-set_other, get_or-set_same, length-set, bytes_eq-Decides, slice_eq-Decides, Rational, value_of, Frac, Fields, field, name_of, has_name, record_of, is_named_in, HasValue, IsRight, GivesValue, Gives, AreTaken, IsEntry}
 use Rattle.std.specs.Bool.{Decides}
 use Rattle.std.specs.Cmp.Lexicographic.{pointwise}
-use Rattle.std.specs.Option.{option_map, option_or}
-use Rattle.std.specs.Str.{bytes_eq}
-use Rattle.std.proofs.lemmas.Bool.{cases_Bool, cases_eq}
-use Rattle.std.proofs.lemmas.List.{get_or_default, get_or-set_other, get_or-set_same, length-set}
 use Rattle.std.proofs.lemmas.List.Folds.{find-append}
-use Rattle.std.proofs.lemmas.Slice.Eq.{bytes_eq-Decides, slice_eq-Decides}
-use Rattle.exact_num.specs.Rational.{Rational}
-use Rattle.exact_num.specs.Value.{value_of}
-use Rattle.exact_num.specs.declared.fraction.Frac.{Frac}
-use Rattle.plan_files.specs.Files.{Fields, field, name_of, has_name, record_of, is_named_in, HasValue, IsRight, GivesValue, Gives}
-use Rattle.plan_files.specs.Reading.{AreTaken, IsEntry}
 
 -- ---- the first record of a name
 

@@ -1,17 +1,7 @@
 -- Records tell one thing at most.
-use Rattle.std.proofs.Common.{◌≡◌, ℕ, true, false, List, [], ◌∷◌, ◌++◌, Option, Some, None, inl, inr, refl, sym, ap, ap₂, ◌∙◌, subst, append_assoc, if◌then◌else◌}
-use Rattle.std.specs.Prelude.{not}
-use Rattle.std.specs.List.{find}
-use Rattle.std.proofs.lemmas.List.{append-nil}
-use Rattle.exact_num.specs.Rational.{Rational, lowest}
-use Rattle.row_core.specs.Numbers.{keys_of}
-use Rattle.scaled_decimals.specs.FractionText.{bottom_of, top_of}
+use Rattle.plan_files.proofs.Common.{◌≡◌, ℕ, true, false, List, [], ◌∷◌, ◌++◌, Option, Some, None, inl, inr, refl, sym, ap, ap₂, ◌∙◌, subst, append_assoc, if◌then◌else◌, not, find, append-nil, Rational, lowest, keys_of, bottom_of, top_of, BadRecord, UnknownVar, Twice, BadValue, Missing, AreGiven, Breaks, BreaksFirst, HasNoHeader, IsInForm, AreRight, AreRightAfter, Fields, Gives, GivesValue, HasNoValue, HasValue, IsRight, field, is_named_in, record_of, header}
 use Rattle.scaled_decimals.proofs.ValueTextLemmas.{one_value_way}
 use Rattle.plan_files.specs.declared.faults.PlanFault.{PlanFault}
-use Rattle.plan_files.specs.declared.faults.PlanFault.TheVariants.{BadRecord, UnknownVar, Twice, BadValue, Missing}
-use Rattle.plan_files.specs.Answers.{AreGiven, Breaks, BreaksFirst, HasNoHeader, IsInForm}
-use Rattle.plan_files.specs.Files.{AreRight, AreRightAfter, Fields, Gives, GivesValue, HasNoValue, HasValue, IsRight, field, is_named_in, record_of}
-use Rattle.plan_files.specs.Records.{header}
 use Rattle.plan_files.proofs.TakenLaws.{some_given}
 
 -- ---- values

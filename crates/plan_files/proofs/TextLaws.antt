@@ -1,13 +1,5 @@
 -- Records as text, one after another.
-use Rattle.std.proofs.Common.{◌≡◌, ℕ, zero, suc, ◌+◌, ◌<◌, Bool, true, false, List, [], ◌∷◌, ◌++◌, length, map, filter, drop, get_or, sym, ap, ◌∙◌, append_assoc, arith, if◌then◌else◌}
-use Rattle.std.specs.List.{AllByRecursion}
-use Rattle.std.proofs.lemmas.List.{drop_more}
-use Rattle.csv.specs.Writing.{default_writer, row_text}
-use Rattle.exact_num.specs.Rational.{Rational}
-use Rattle.exact_num.specs.declared.fraction.Frac.{Frac}
-use Rattle.row_core.specs.Plans.{valued}
-use Rattle.plan_files.specs.Files.{Fields}
-use Rattle.plan_files.specs.Texts.{records_text}
+use Rattle.plan_files.proofs.Common.{◌≡◌, ℕ, zero, suc, ◌+◌, ◌<◌, Bool, true, false, List, [], ◌∷◌, ◌++◌, length, map, filter, drop, get_or, sym, ap, ◌∙◌, append_assoc, arith, if◌then◌else◌, AllByRecursion, drop_more, default_writer, row_text, Rational, Frac, valued, Fields, records_text}
 
 pub valued_at : {K : Type 0} (P : K × Rational → Type 0) (es : List (K × Frac)) (i : ℕ) (d : K × Frac) → AllByRecursion P (map valued es) → i < length es → P (valued (get_or es i d))
 valued_at P [] i d all h = absurd (omega arith)

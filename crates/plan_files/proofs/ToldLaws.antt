@@ -1,19 +1,5 @@
 -- Values by the keys of their names: what a file tells.
-use Rattle.std.proofs.Common.{◌≡◌, suc, Bool, true, false, ◌&&◌, List, [], ◌∷◌, length, map, filter, Option, Some, None, refl, sym, ap, ap₂, ◌∙◌, arith, if◌then◌else◌}
-use Rattle.std.specs.Prelude.{is_some, not}
-use Rattle.std.specs.Cmp.{IsTotalOrder}
-use Rattle.std.specs.List.{find}
-use Rattle.std.specs.Option.{option_map}
-use Rattle.std.specs.Ordering.{is_lt}
-use Rattle.std.specs.declared.cmp.Ordering.{Ordering}
-use Rattle.exact_num.specs.Value.{value_of}
-use Rattle.exact_num.specs.declared.fraction.Frac.{Frac}
-use Rattle.row_core.specs.Numbers.{ascends, before_first, keys_of}
-use Rattle.row_core.specs.Plans.{valued}
-use Rattle.row_core.proofs.AscendingLaws.{ascends-skip, both_passed}
-use Rattle.plan_files.specs.Answers.{AreGiven}
-use Rattle.plan_files.specs.Files.{Fields, Gives, is_named_in, record_of}
-use Rattle.plan_files.specs.Reading.{AreTaken, first_without, with_values}
+use Rattle.plan_files.proofs.Common.{◌≡◌, suc, Bool, true, false, ◌&&◌, List, [], ◌∷◌, length, map, filter, Option, Some, None, refl, sym, ap, ap₂, ◌∙◌, arith, if◌then◌else◌, is_some, not, IsTotalOrder, find, option_map, is_lt, Ordering, value_of, Frac, ascends, before_first, keys_of, valued, ascends-skip, both_passed, AreGiven, Fields, Gives, is_named_in, record_of, AreTaken, first_without, with_values}
 use Rattle.plan_files.proofs.TakenLaws.{none_given, some_given}
 
 pub keys_valued : {K : Type 0} (es : List (K × Frac)) → keys_of (map valued es) ≡ keys_of es

@@ -1,19 +1,6 @@
 -- No two variables, and no two rows, of the sets have the same fields.
-use Rattle.std.proofs.Common.{◌≡◌, ℕ, ◌≤◌, Bool, true, false, List, [], map, get_or, refl, sym, ap, ap₂, ◌∙◌, arith}
-use Rattle.std.specs.List.{IsDistinct}
-use Rattle.std.specs.Str.{bytes_eq}
-use Rattle.model_sets.specs.Members.{AreSets, SetLists, members}
-use Rattle.row_core.specs.declared.Index.{Index}
-use Rattle.row_core.specs.declared.RowName.{RowName}
-use Rattle.row_core.specs.declared.Var.{Var}
-use Rattle.row_core.specs.Equations.{equation_has}
-use Rattle.row_core.specs.Kinds.{kind_has, word_of_kind}
-use Rattle.row_core.specs.NameTexts.{set_of}
+use Rattle.plan_files.proofs.Common.{◌≡◌, ℕ, ◌≤◌, Bool, true, false, List, [], map, get_or, refl, sym, ap, ap₂, ◌∙◌, arith, IsDistinct, bytes_eq, AreSets, SetLists, members, Index, RowName, Var, equation_has, kind_has, word_of_kind, set_of, Fields, IsListedRow, IsListedVariable, IsIndexOf, IsSubscript, places, row_fields, variable_fields}
 use Rattle.row_core.proofs.Words.{word_of_equation_apart, word_of_kind_apart}
-use Rattle.plan_files.specs.Files.{Fields}
-use Rattle.plan_files.specs.Listed.{IsListedRow, IsListedVariable}
-use Rattle.plan_files.specs.Reading.{IsIndexOf, IsSubscript}
-use Rattle.plan_files.specs.Records.{places, row_fields, variable_fields}
 use Rattle.plan_files.proofs.KeyLaws.{or_number}
 use Rattle.plan_files.proofs.NamedLaws.{row_index, variable_index}
 use Rattle.plan_files.proofs.SubscriptLaws.{subscript_alone}

@@ -1,12 +1,6 @@
 -- Subscripts that a kind or an equation has, and what holds of each of a list.
-use Rattle.std.proofs.Common.{◌≡◌, ℕ, Bool, true, false, ◌||◌, List, [], ◌∷◌, map, refl, sym, subst, arith}
-use Rattle.std.specs.Prelude.{nat_eq}
-use Rattle.std.specs.List.{AllByRecursion, list_any}
+use Rattle.plan_files.proofs.Common.{◌≡◌, ℕ, Bool, true, false, ◌||◌, List, [], ◌∷◌, map, refl, sym, subst, arith, nat_eq, AllByRecursion, list_any, SetLists, Index, IsWithin, HasSubscriptsWithin, has_at, places}
 use Rattle.std.proofs.lemmas.Bool.Decides.{nat_tests}
-use Rattle.model_sets.specs.Members.{SetLists}
-use Rattle.row_core.specs.declared.Index.{Index}
-use Rattle.row_core.specs.NameTexts.{IsWithin}
-use Rattle.plan_files.specs.Records.{HasSubscriptsWithin, has_at, places}
 
 same_number : (p q : ℕ) → nat_eq p q ≡ true → p ≡ q
 same_number p q h = grind (arith, nat_tests)

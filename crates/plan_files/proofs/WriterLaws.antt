@@ -1,7 +1,6 @@
 -- A writer that takes records of any lengths writes each as one does that doesn't.
-use Rattle.std.proofs.Common.{◌≡◌, ℕ, Bool, List, [], ◌∷◌, refl}
+use Rattle.plan_files.proofs.Common.{◌≡◌, ℕ, Bool, List, [], ◌∷◌, refl, escaped, field_text, fields_text, is_blank, row_text, with_flexible}
 use Rattle.csv.specs.declared.writer.WriterBuilder.{WriterBuilder}
-use Rattle.csv.specs.Writing.{escaped, field_text, fields_text, is_blank, row_text, with_flexible}
 
 module _ (w : WriterBuilder) (yes : Bool) where
   escaped-same : (field : List ℕ) → escaped (with_flexible w yes) field ≡ escaped w field

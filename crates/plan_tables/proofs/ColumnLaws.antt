@@ -1,14 +1,7 @@
 -- The places of columns are those of subscripts, and the kind has each of them.
-use Rattle.std.proofs.Common.{◌≡◌, ℕ, zero, suc, ◌<◌, Bool, true, false, cond, List, [], ◌∷◌, filter, get_or, length, refl, lit<}
-use Rattle.std.specs.Prelude.{nat_eq}
-use Rattle.std.specs.List.{AllByRecursion, list_any}
-use Rattle.model_sets.specs.Members.{SetLists}
-use Rattle.row_core.specs.declared.Index.{Index}
+use Rattle.plan_tables.proofs.Common.{◌≡◌, ℕ, zero, suc, ◌<◌, Bool, true, false, cond, List, [], ◌∷◌, filter, get_or, length, refl, lit<, nat_eq, AllByRecursion, list_any, SetLists, Index, kind_at, IsWithin, by_mode, column_order, columns}
 use Rattle.row_core.specs.declared.kind_numbers.TheConstants as k
-use Rattle.row_core.specs.Kinds.{kind_at}
-use Rattle.row_core.specs.NameTexts.{IsWithin}
 use Rattle.plan_files.proofs.WithinLaws.{within_at}
-use Rattle.plan_tables.specs.Columns.{by_mode, column_order, columns}
 
 -- each is a place of `Index`
 pub order_below : (kind : ℕ) → AllByRecursion (λ place. place < 8) (column_order kind)

@@ -1,22 +1,12 @@
 -- The definitions, computed on small examples, and on near misses.
-use Rattle.std.proofs.Common.{◌≡◌, ℕ, pos, negsuc, List, [], ◌∷◌, None, Some, false, refl}
-use Rattle.std.specs.Prelude.{codes}
-use Rattle.std.specs.List.{flat_map}
+use Rattle.plan_tables.proofs.Common.{◌≡◌, ℕ, pos, negsuc, List, [], ◌∷◌, None, Some, false, refl, codes, flat_map, escaped, fields_text, is_blank, Rational, pair, whole, SetLists, Index, Var, columns, header_of, all_kinds, table_named, kind_text, table_text}
 use Rattle.std.specs.Str.{bytes_eq}
 use Rattle.std.specs.Fmt.{digits}
-use Rattle.csv.specs.Writing.{escaped, fields_text, is_blank}
-use Rattle.exact_num.specs.Rational.{Rational, pair, whole}
-use Rattle.model_sets.specs.Members.{SetLists}
-use Rattle.row_core.specs.declared.Index.{Index}
-use Rattle.row_core.specs.declared.Var.{Var}
 use Rattle.row_core.specs.declared.kind_numbers.TheConstants as k
 use Rattle.scaled_decimals.specs.PrintedFraction.{fraction_text}
 use Rattle.scaled_decimals.specs.PrintedPlaces.{millionths, millionths_text}
 use Rattle.plan_tables.specs.declared.shown.NumberForm.TheVariants.{Decimals, Fractions}
 use Rattle.plan_tables.specs.declared.shown.Table.TheVariants.{AllValues, Values}
-use Rattle.plan_tables.specs.Columns.{columns, header_of}
-use Rattle.plan_tables.specs.TableNames.{all_kinds, table_named}
-use Rattle.plan_tables.specs.ValueTables.{kind_text, table_text}
 
 -- ---- a model with two regions, two technologies, the second with a comma, two fuels, two modes, and three years
 

@@ -1,6 +1,5 @@
 -- All kinds, from a kind on.
-use Rattle.std.proofs.Common.{◌≡◌, ℕ, suc, ◌+◌, ◌-◌, ◌≤◌, Bool, true, false, List, ◌∷◌, ◌++◌, Option, Some, sym, ap, ◌∙◌, append_assoc, arith, if◌then◌else◌}
-use Rattle.std.specs.List.{find, flat_map, range_with_len}
+use Rattle.plan_tables.proofs.Common.{◌≡◌, ℕ, suc, ◌+◌, ◌-◌, ◌≤◌, Bool, false, List, ◌∷◌, ◌++◌, Option, Some, sym, ap, ◌∙◌, append_assoc, arith, if◌then◌else◌, find, flat_map, range_with_len}
 
 -- the kinds from this one on
 abbrev pub kinds_from : ℕ → List ℕ
@@ -16,11 +15,6 @@ pub find_next : (p : ℕ → Bool) (kind : ℕ) (o : Option ℕ) → kind ≤ 48
 find_next p kind o h fails so_far =
     let rest : Option ℕ = find p (kinds_from (kind + 1)) in
     sym (ap (find p) (kinds_next kind h) ∙ ap (λ b. if b then Some kind else rest) fails) ∙ so_far
-
-pub find_here : (p : ℕ → Bool) (kind : ℕ) (o : Option ℕ) → kind ≤ 48 → p kind ≡ true → find p (kinds_from kind) ≡ o → Some kind ≡ o
-find_here p kind o h passes so_far =
-    let rest : Option ℕ = find p (kinds_from (kind + 1)) in
-    sym (ap (find p) (kinds_next kind h) ∙ ap (λ b. if b then Some kind else rest) passes) ∙ so_far
 
 -- what is written of them, of one more
 pub text_next : (text : ℕ → List ℕ) (kind : ℕ) (out new all : List ℕ) → kind ≤ 48 → out ++ flat_map text (kinds_from kind) ≡ all → new ≡ out ++ text kind

@@ -1,19 +1,8 @@
 -- What is written of a list is what is written of its elements, one after another.
-use Rattle.std.proofs.Common.{◌≡◌, ℕ, zero, suc, ◌+◌, ◌<◌, List, [], ◌∷◌, ◌++◌, length, map, filter, drop, get_or, sym, ap, ◌∙◌, append_assoc, arith}
-use Rattle.std.specs.List.{AllByRecursion}
+use Rattle.plan_tables.proofs.Common.{◌≡◌, ℕ, zero, suc, ◌+◌, ◌<◌, List, [], ◌∷◌, ◌++◌, length, map, filter, drop, get_or, sym, ap, ◌∙◌, append_assoc, arith, AllByRecursion, drop_more, map-append, filter-append, default_writer, row_text, Rational, Frac, SetLists, Var, valued, columns, is_shown, value_record, value_records}
 use Rattle.std.proofs.lemmas.Grind.{flat_map-append}
-use Rattle.std.proofs.lemmas.List.{drop_more, map-append}
-use Rattle.std.proofs.lemmas.List.Elements.{filter-append}
-use Rattle.csv.specs.Writing.{default_writer, row_text}
-use Rattle.exact_num.specs.Rational.{Rational}
-use Rattle.exact_num.specs.declared.fraction.Frac.{Frac}
-use Rattle.model_sets.specs.Members.{SetLists}
-use Rattle.row_core.specs.declared.Var.{Var}
-use Rattle.row_core.specs.Plans.{valued}
 use Rattle.plan_files.specs.Texts.{records_text}
 use Rattle.plan_tables.specs.declared.shown.NumberForm.{NumberForm}
-use Rattle.plan_tables.specs.Columns.{columns}
-use Rattle.plan_tables.specs.ValueTables.{is_shown, value_record, value_records}
 
 -- what holds of each value of a list holds of the one at a place
 pub valued_at : {K : Type 0} (P : K × Rational → Type 0) (es : List (K × Frac)) (i : ℕ) (d : K × Frac) → AllByRecursion P (map valued es) → i < length es → P (valued (get_or es i d))

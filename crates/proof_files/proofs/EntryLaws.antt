@@ -1,9 +1,6 @@
 -- The one place of a name among the names of several lists, one after another.
-use Rattle.std.proofs.Common.{◌≡◌, ℕ, ◌+◌, ◌-◌, ◌<◌, List, [], ◌++◌, length, get_or, Some, None, inl, inr, refl, sym, ap, ◌∙◌, subst, arith}
+use Rattle.proof_files.proofs.Common.{◌≡◌, ℕ, ◌+◌, ◌-◌, ◌<◌, List, [], ◌++◌, length, get_or, Some, None, inl, inr, refl, sym, ap, ◌∙◌, subst, arith, get_or-append-add, get_or-append_right, get_or_append_left, length-append, Fields, IsEntry}
 use Rattle.std.proofs.lemmas.Bool.{cases_lt}
-use Rattle.std.proofs.lemmas.List.{get_or-append-add, get_or-append_right, get_or_append_left, length-append}
-use Rattle.plan_files.specs.Files.{Fields}
-use Rattle.plan_files.specs.Reading.{IsEntry}
 
 module _ (a b : List Fields) (name : Fields) where
   -- where the name stands among both, it stands in one of them

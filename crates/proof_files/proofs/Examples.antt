@@ -1,26 +1,12 @@
 -- The definitions, computed on a model with one member in each set, and on near misses.
-use Rattle.std.proofs.Common.{◌≡◌, ℕ, zero, suc, ◌<◌, pos, false, List, [], ◌∷◌, inr, refl, arith}
-use Rattle.std.specs.Prelude.{codes, slice_index_or}
+use Rattle.proof_files.proofs.Common.{◌≡◌, ℕ, zero, suc, ◌<◌, pos, false, List, [], ◌∷◌, inr, refl, arith, codes, slice_index_or, fields_text, is_blank, Rational, lowest, pair, SetLists, RowName, Var, fraction_text, Missing, Twice, UnknownVar, Breaks, Fields, HasValue, IsRight, header, Optimum, Refutation, Descent, descent_records, direction_fields, optimum_file, proof_names, refutation_records, IsProof, IsProofFault, named_of}
 use Rattle.std.specs.Fmt.{digits}
-use Rattle.csv.specs.Writing.{fields_text, is_blank}
 use Rattle.exact_num.specs.Gcd.{gcd_of, gcd_within}
 use Rattle.exact_num.specs.Range.{all_fit, in_range}
-use Rattle.exact_num.specs.Rational.{Rational, lowest, pair}
-use Rattle.model_sets.specs.Members.{SetLists}
-use Rattle.row_core.specs.declared.RowName.{RowName}
-use Rattle.row_core.specs.declared.Var.{Var}
 use Rattle.row_core.specs.declared.equation_numbers.TheConstants.{CAA4}
 use Rattle.row_core.specs.declared.kind_numbers.TheConstants.{NEW_CAPACITY}
 use Rattle.scaled_decimals.specs.Digits.{number_of}
 use Rattle.scaled_decimals.specs.FractionText.{Quotient}
-use Rattle.scaled_decimals.specs.PrintedFraction.{fraction_text}
-use Rattle.plan_files.specs.declared.faults.PlanFault.TheVariants.{Missing, Twice, UnknownVar}
-use Rattle.plan_files.specs.Answers.{Breaks}
-use Rattle.plan_files.specs.Files.{Fields, HasValue, IsRight}
-use Rattle.plan_files.specs.Records.{header}
-use Rattle.proof_files.specs.declared.proof.Proof.TheVariants.{Optimum, Refutation, Descent}
-use Rattle.proof_files.specs.ProofRecords.{descent_records, direction_fields, optimum_file, proof_names, refutation_records}
-use Rattle.proof_files.specs.Proofs.{IsProof, IsProofFault, named_of}
 
 abbrev sets : SetLists
 sets = (codes "R" ∷ []) ∷ (codes "T" ∷ []) ∷ (codes "F" ∷ []) ∷ [] ∷ (codes "1" ∷ []) ∷ (codes "D" ∷ []) ∷ (codes "2020" ∷ []) ∷ [] ∷ [] ∷ [] ∷ [] ∷ []

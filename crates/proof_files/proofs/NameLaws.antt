@@ -1,20 +1,5 @@
 -- The names of variables, of rows and of variables of a direction: each tells what it is of.
-use Rattle.std.proofs.Common.{◌≡◌, ℕ, ◌+◌, ◌<◌, List, [], ◌∷◌, ◌++◌, length, map, get_or, Option, Some, None, sym, ap, ap₂, ◌∙◌, subst, arith}
-use Rattle.std.specs.Prelude.{codes}
-use Rattle.std.specs.List.{AllByRecursion}
-use Rattle.std.proofs.lemmas.List.{get_or-map, length-append, length-map}
-use Rattle.model_sets.specs.Members.{AreSets, SetLists}
-use Rattle.row_core.specs.declared.RowName.{RowName}
-use Rattle.row_core.specs.declared.Var.{Var}
-use Rattle.row_core.specs.Kinds.{kind_has, word_of_kind}
-use Rattle.plan_files.specs.Answers.{row_names, variable_names}
-use Rattle.plan_files.specs.Files.{Fields}
-use Rattle.plan_files.specs.Listed.{IsListedRow, IsListedVariable}
-use Rattle.plan_files.specs.Reading.{IsEntry}
-use Rattle.plan_files.specs.Records.{row_fields, subscript_fields, variable_fields}
-use Rattle.plan_files.proofs.KeyLaws.{all_at}
-use Rattle.plan_files.proofs.UniqueLaws.{same_variable}
-use Rattle.proof_files.specs.ProofRecords.{direction_fields, direction_names, proof_names}
+use Rattle.proof_files.proofs.Common.{◌≡◌, ℕ, ◌+◌, ◌<◌, List, [], ◌∷◌, ◌++◌, length, map, get_or, Option, Some, None, sym, ap, ap₂, ◌∙◌, subst, arith, codes, AllByRecursion, get_or-map, length-append, length-map, AreSets, SetLists, RowName, Var, kind_has, word_of_kind, row_names, variable_names, Fields, IsListedRow, IsListedVariable, IsEntry, row_fields, subscript_fields, variable_fields, all_at, same_variable, direction_fields, direction_names, proof_names}
 use Rattle.proof_files.proofs.EntryLaws.{entry_first, entry_none, entry_second}
 use Rattle.proof_files.proofs.WordLaws.{equation_no_direction, kind_no_direction, kind_no_equation, same_rest}
 

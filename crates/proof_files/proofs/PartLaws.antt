@@ -1,17 +1,6 @@
 -- Values that were taken for the names of several lists, apart.
-use Rattle.std.proofs.Common.{◌≡◌, ◌+◌, List, [], ◌++◌, length, get_or, drop, take, Option, None, sym, ap₂, ◌∙◌, subst, append_assoc, arith}
+use Rattle.proof_files.proofs.Common.{◌≡◌, ◌+◌, List, [], ◌++◌, length, get_or, drop, take, Option, None, sym, ap₂, ◌∙◌, subst, append_assoc, arith, get_or-append-add, get_or-drop, get_or-take, get_or_append_left, length-append, length-drop, length-map, length-take-le, value_of, Frac, SetLists, RowName, Var, row_names, variable_names, Fields, Gives, AreTaken, row_fields, variable_fields, direction_fields, direction_names, proof_names}
 use Rattle.std.specs.Option.{option_map}
-use Rattle.std.proofs.lemmas.List.{get_or-append-add, get_or-drop, get_or-take, get_or_append_left, length-append, length-drop, length-map, length-take-le}
-use Rattle.exact_num.specs.Value.{value_of}
-use Rattle.exact_num.specs.declared.fraction.Frac.{Frac}
-use Rattle.model_sets.specs.Members.{SetLists}
-use Rattle.row_core.specs.declared.RowName.{RowName}
-use Rattle.row_core.specs.declared.Var.{Var}
-use Rattle.plan_files.specs.Answers.{row_names, variable_names}
-use Rattle.plan_files.specs.Files.{Fields, Gives}
-use Rattle.plan_files.specs.Reading.{AreTaken}
-use Rattle.plan_files.specs.Records.{row_fields, variable_fields}
-use Rattle.proof_files.specs.ProofRecords.{direction_fields, direction_names, proof_names}
 
 module _ (a b rows : List Fields) (values : List (Option Frac)) (taken : AreTaken (a ++ b) rows values) where
   all_many : length values ≡ length a + length b

@@ -1,17 +1,8 @@
 -- Lists of keys that ascend, some keys of which are taken.
-use Rattle.std.proofs.Common.{◌≡◌, Bool, true, false, ◌&&◌, List, [], ◌∷◌, filter, Option, Some, None, inl, inr, ◌⊎◌, refl, sym, ap, ap₂, ◌∙◌, subst, if◌then◌else◌}
+use Rattle.proof_files.proofs.Common.{◌≡◌, Bool, true, false, ◌&&◌, List, [], ◌∷◌, filter, Option, Some, None, inl, inr, ◌⊎◌, refl, sym, ap, ap₂, ◌∙◌, subst, if◌then◌else◌, is_lt, ordering_reverse, Ordering, Frac, ascends, keys_of, ascends-first, ascends-skip, ascends-tail, both_passed, Contains-from_Has, Has, with_values, alike_itself, ascends_filter}
 use Rattle.std.specs.Cmp.{IsTotalOrder}
-use Rattle.std.specs.Ordering.{is_lt, ordering_reverse}
-use Rattle.std.specs.declared.cmp.Ordering.{Ordering}
 use Rattle.std.specs.declared.cmp.Ordering.TheVariants.{Less, Equal, Greater}
 use Rattle.std.proofs.lemmas.Map.Lookups.{CmpEqualImpliesEq}
-use Rattle.exact_num.specs.declared.fraction.Frac.{Frac}
-use Rattle.row_core.specs.Numbers.{ascends, keys_of}
-use Rattle.row_core.proofs.AscendingLaws.{ascends-first, ascends-skip, ascends-tail, both_passed}
-use Rattle.row_core.proofs.Members.{Contains-from_Has, Has}
-use Rattle.plan_files.specs.Reading.{with_values}
-use Rattle.plan_files.proofs.KeyLaws.{alike_itself}
-use Rattle.plan_files.proofs.ToldLaws.{ascends_filter}
 
 module _ {K : Type 0} (cmp : K → K → Ordering) (total : IsTotalOrder cmp) where
   -- ---- the keys that have a value

@@ -1,27 +1,8 @@
 -- Records tell one proof at most.
-use Rattle.std.proofs.Common.{◌≡◌, true, false, List, [], ◌∷◌, length, map, Option, Some, None, inl, inr, refl, sym, ap, ap₂, ◌∙◌, subst, arith}
+use Rattle.proof_files.proofs.Common.{◌≡◌, true, false, List, [], ◌∷◌, length, map, Option, Some, None, inl, inr, refl, sym, ap, ap₂, ◌∙◌, subst, arith, list_all, Rational, Frac, SetLists, RowName, Var, keys_of, valued, first_missing, Fields, AreTaken, first_without, with_values, row_fields, variable_fields, PlanFault, Missing, or_key, all_keys, given_told, keys_told, keys_valued, Optimum, Refutation, Descent, direction_fields, proof_names, AreAllTold, AreRecordsOf, AreTold, IsProof, IsProofFault, MissesFirst, named_of}
 use Rattle.std.specs.Prelude.{is_none}
-use Rattle.std.specs.List.{list_all}
-use Rattle.exact_num.specs.Rational.{Rational}
-use Rattle.exact_num.specs.declared.fraction.Frac.{Frac}
-use Rattle.model_sets.specs.Members.{SetLists}
-use Rattle.row_core.specs.declared.RowName.{RowName}
-use Rattle.row_core.specs.declared.Var.{Var}
-use Rattle.row_core.specs.Numbers.{keys_of}
-use Rattle.row_core.specs.Plans.{valued}
-use Rattle.plan_files.specs.Answers.{first_missing}
-use Rattle.plan_files.specs.Files.{Fields}
-use Rattle.plan_files.specs.Reading.{AreTaken, first_without, with_values}
-use Rattle.plan_files.specs.Records.{row_fields, variable_fields}
-use Rattle.plan_files.specs.declared.faults.PlanFault.{PlanFault}
-use Rattle.plan_files.specs.declared.faults.PlanFault.TheVariants.{Missing}
-use Rattle.plan_files.proofs.KeyLaws.{or_key}
 use Rattle.plan_files.proofs.TellingLaws.{in_form_not_broken, none_missing, one_first, same_rows, same_told}
-use Rattle.plan_files.proofs.ToldLaws.{all_keys, given_told, keys_told, keys_valued}
 use Rattle.proof_files.specs.declared.proof.Proof.{Proof}
-use Rattle.proof_files.specs.declared.proof.Proof.TheVariants.{Optimum, Refutation, Descent}
-use Rattle.proof_files.specs.ProofRecords.{direction_fields, proof_names}
-use Rattle.proof_files.specs.Proofs.{AreAllTold, AreRecordsOf, AreTold, IsProof, IsProofFault, MissesFirst, named_of}
 
 -- ---- one list of values
 

@@ -1,11 +1,7 @@
 -- The words of kinds, of equations and of variables of a direction tell which of them a record names.
-use Rattle.std.proofs.Common.{◌≡◌, ℕ, zero, suc, ◌-◌, ◌<◌, List, [], ◌∷◌, ◌++◌, Bool, true, false, ◌||◌, length, map, drop, get_or, refl, sym, ap, ◌∙◌, arith, nat_eq, replicate}
-use Rattle.std.proofs.lemmas.List.{get_or-map, get_or-replicate}
+use Rattle.proof_files.proofs.Common.{◌≡◌, ℕ, zero, suc, ◌-◌, ◌<◌, List, [], ◌∷◌, ◌++◌, Bool, true, false, ◌||◌, length, map, drop, get_or, refl, sym, ap, ◌∙◌, arith, nat_eq, replicate, get_or-map, get_or-replicate, codes, list_any, IsKind, Kind, kinds, no_kind, word_of_kind}
 use Rattle.std.proofs.lemmas.Slice.Eq.{bytes_eq-Decides}
-use Rattle.std.specs.Prelude.{codes}
-use Rattle.std.specs.List.{list_any}
 use Rattle.std.specs.Str.{bytes_eq}
-use Rattle.row_core.specs.Kinds.{IsKind, Kind, kinds, no_kind, word_of_kind}
 use Rattle.row_core.specs.Equations.{IsEquation, Equation, equations, no_equation, word_of_equation}
 
 false_true : false ≡ true → ⊥

@@ -1,33 +1,7 @@
 -- Records of plan, multipliers and direction that were written are read again.
-use Rattle.std.proofs.Common.{◌≡◌, Bool, true, false, ◌&&◌, List, [], ◌∷◌, ◌++◌, length, map, filter, Some, None, inl, inr, refl, sym, ap, ap₂, ◌∙◌, subst, if◌then◌else◌}
-use Rattle.std.specs.Prelude.{Contains, is_some, not}
-use Rattle.std.specs.List.{AllByRecursion}
-use Rattle.std.specs.Ordering.{is_lt}
-use Rattle.std.specs.declared.cmp.Ordering.{Ordering}
-use Rattle.csv.specs.Writing.{read_back}
-use Rattle.exact_num.specs.Rational.{Rational}
-use Rattle.exact_num.specs.Value.{value_of}
-use Rattle.exact_num.specs.declared.fraction.Frac.{Frac}
-use Rattle.model_sets.specs.Members.{SetLists}
-use Rattle.row_core.specs.declared.RowName.{RowName}
-use Rattle.row_core.specs.declared.Var.{Var}
-use Rattle.row_core.specs.Numbers.{ascends, is_zero, keys_of}
-use Rattle.row_core.specs.Order.{row_name_cmp, var_cmp}
-use Rattle.row_core.specs.Plans.{valued}
-use Rattle.row_core.proofs.AscendingLaws.{ascends-skip, ascends-tail, both_passed}
-use Rattle.row_core.proofs.Members.{Contains-from_Has, Has, Has-append_left, Has-append_right, Has-from_Contains}
-use Rattle.row_core.proofs.Orders.{row_name_cmp_exact, row_name_cmp_total, var_cmp_exact, var_cmp_total}
-use Rattle.scaled_decimals.specs.PrintedFraction.{fraction_text}
-use Rattle.plan_files.specs.Answers.{AreGiven, IsInForm, row_names, variable_names}
-use Rattle.plan_files.specs.Files.{AreRight, Fields, GivesValue, HasValue, field, is_named_in, name_of, record_of, records_of}
-use Rattle.plan_files.specs.Listed.{IsListedRow, IsListedVariable}
-use Rattle.plan_files.specs.Records.{header, nonzero, row_fields, row_record, variable_fields, variable_record}
-use Rattle.plan_files.specs.Texts.{records_text}
+use Rattle.proof_files.proofs.Common.{◌≡◌, Bool, true, false, ◌&&◌, List, [], ◌∷◌, ◌++◌, length, map, filter, Some, None, inl, inr, refl, sym, ap, ap₂, ◌∙◌, subst, if◌then◌else◌, Contains, is_some, not, AllByRecursion, is_lt, Ordering, read_back, Rational, value_of, Frac, SetLists, RowName, Var, ascends, is_zero, keys_of, row_name_cmp, var_cmp, valued, ascends-skip, ascends-tail, both_passed, Contains-from_Has, Has, Has-append_left, Has-append_right, Has-from_Contains, row_name_cmp_exact, row_name_cmp_total, var_cmp_exact, var_cmp_total, fraction_text, AreGiven, IsInForm, row_names, variable_names, AreRight, Fields, GivesValue, HasValue, field, is_named_in, name_of, record_of, records_of, IsListedRow, IsListedVariable, header, nonzero, row_fields, row_record, variable_fields, variable_record, records_text, same_row, same_variable, direction_fields, direction_names, direction_record, proof_names, KeysAreNames, NamesAreListed, named_of}
 use Rattle.plan_files.proofs.PrintedValue.{printed_value}
 use Rattle.plan_files.proofs.RoundTrip.{Apart, absent, all_map, all_of, apart, as_written, own, right_kept, written_records}
-use Rattle.plan_files.proofs.UniqueLaws.{same_row, same_variable}
-use Rattle.proof_files.specs.ProofRecords.{direction_fields, direction_names, direction_record, proof_names}
-use Rattle.proof_files.specs.Proofs.{KeysAreNames, NamesAreListed, named_of}
 use Rattle.proof_files.proofs.NameLaws.{row_no_direction, same_direction, variable_no_direction, variable_no_row}
 use Rattle.proof_files.proofs.SubLists.{has_or_not, kept_are}
 

@@ -1,28 +1,15 @@
 -- The definitions, computed on small models, and on near misses.
-use Rattle.std.proofs.Common.{◌≡◌, ℕ, ◌^◌, ◌-◌, ℤ, pos, negsuc, true, false, List, [], ◌∷◌, map, refl, ap}
+use Rattle.result_tables.proofs.Common.{◌≡◌, ℕ, ◌^◌, ◌-◌, ℤ, pos, negsuc, true, false, List, [], ◌∷◌, map, refl, ap, escaped, fields_text, is_blank, all_fit, in_range, Rational, lowest, pair, times, whole, SetLists, Row, RowName, Var, EBA11, amount_line, priced, production_of, infeasible_text, report_text, summary_text, unbounded_text, kind_table, nonzero, price_record, price_table, table_text, number_at}
 use Rattle.std.specs.Prelude.{codes}
 use Rattle.std.specs.Fmt.{digits}
-use Rattle.csv.specs.Writing.{escaped, fields_text, is_blank}
 use Rattle.exact_num.specs.Formed.{product_formed}
 use Rattle.exact_num.specs.Gcd.{gcd_of, gcd_within}
-use Rattle.exact_num.specs.Range.{all_fit, in_range}
-use Rattle.exact_num.specs.Rational.{Rational, lowest, pair, times, whole}
-use Rattle.model_sets.specs.Members.{SetLists}
 use Rattle.row_core.specs.declared.Index.{Index}
-use Rattle.row_core.specs.declared.Row.{Row}
-use Rattle.row_core.specs.declared.RowName.{RowName}
-use Rattle.row_core.specs.declared.Var.{Var}
-use Rattle.row_core.specs.declared.equation_numbers.TheConstants.{EBA11}
 use Rattle.row_core.specs.declared.kind_numbers.TheConstants.{DEMAND, NEW_CAPACITY, PRODUCTION, RATE_OF_ACTIVITY, TOTAL_DISCOUNTED_COST}
 use Rattle.scaled_decimals.specs.PrintedFraction.{fraction_text}
 use Rattle.scaled_decimals.specs.PrintedPlaces.{millionths, millionths_text}
 use Rattle.result_tables.specs.declared.attempts.Begun.TheVariants.{FromNothing, FromValues, WithoutStart}
 use Rattle.result_tables.specs.declared.attempts.FoundBy.TheVariants.{ByGuesses, ByMethod, OnGrid}
-use Rattle.result_tables.specs.Lines.{amount_line}
-use Rattle.result_tables.specs.Prices.{priced, production_of}
-use Rattle.result_tables.specs.Reports.{infeasible_text, report_text, summary_text, unbounded_text}
-use Rattle.result_tables.specs.Tables.{kind_table, nonzero, price_record, price_table, table_text}
-use Rattle.row_core.specs.Rows.{number_at}
 
 -- ---- a model with one member in each set, the technology's with a comma
 

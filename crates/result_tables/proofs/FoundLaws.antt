@@ -1,19 +1,12 @@
 -- In rows that ascend by name each row is found by its name.
-use Rattle.std.proofs.Common.{◌≡◌, Bool, true, false, List, [], ◌∷◌, map, filter, refl, sym, ap, ◌∙◌, if◌then◌else◌}
-use Rattle.std.specs.List.{AllByRecursion}
+use Rattle.result_tables.proofs.Common.{◌≡◌, Bool, true, false, List, [], ◌∷◌, map, filter, refl, sym, ap, ◌∙◌, if◌then◌else◌, AllByRecursion, Rational, name_of_row, Row, RowName, number_at, entries_of, is_balance, named_price, price_at, priced, prices, production_of}
 use Rattle.std.specs.Ordering.{is_eq, is_lt, ordering_reverse}
 use Rattle.std.specs.declared.cmp.Ordering.{Ordering}
 use Rattle.std.specs.declared.cmp.Ordering.TheVariants.{Less, Equal, Greater}
-use Rattle.exact_num.specs.Rational.{Rational}
-use Rattle.plan_files.specs.Listed.{name_of_row}
-use Rattle.row_core.specs.declared.Row.{Row}
-use Rattle.row_core.specs.declared.RowName.{RowName}
 use Rattle.row_core.specs.Numbers.{ascends}
 use Rattle.row_core.specs.Order.{row_name_cmp}
-use Rattle.row_core.specs.Rows.{number_at}
 use Rattle.row_core.proofs.AscendingLaws.{Less-from_test, ascends-skip, ascends-tail, both_passed}
 use Rattle.row_core.proofs.Orders.{row_name_cmp_total}
-use Rattle.result_tables.specs.Prices.{entries_of, is_balance, named_price, price_at, priced, prices, production_of}
 
 alike : (o : Ordering) → o ≡ ordering_reverse o → o ≡ Equal
 alike Less h = absurd (cc h)

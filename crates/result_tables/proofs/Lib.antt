@@ -1,3 +1,4 @@
+mod Common
 mod Examples
 pub mod FoundLaws
 pub mod PriceLaws

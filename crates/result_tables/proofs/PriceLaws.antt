@@ -1,23 +1,11 @@
 -- The steps of prices, row by row.
-use Rattle.std.proofs.Common.{◌≡◌, ◌≢◌, ℕ, ◌+◌, ◌<◌, Bool, true, false, List, [], ◌∷◌, ◌++◌, length, map, drop, get_or, Option, Some, None, sym, ap, ◌∙◌, arith, if◌then◌else◌}
-use Rattle.std.specs.Prelude.{◌==◌}
+use Rattle.result_tables.proofs.Common.{◌≡◌, ◌≢◌, ℕ, ◌+◌, ◌<◌, Bool, true, false, List, [], ◌∷◌, ◌++◌, length, map, drop, get_or, Option, Some, None, sym, ap, ◌∙◌, arith, if◌then◌else◌, ◌==◌, drop_more, map-append, filter-append, all_fit, Rational, Step, first_wide, first_wide-append, first_wide-fits, first_wide-nil, first_wide-stops, EBA11, Row, RowName, IsFirstStop, balances, is_balance, price_step, price_steps}
 use Rattle.std.specs.Option.{option_or}
 use Rattle.std.proofs.lemmas.Bool.Decides.{nat_tests}
-use Rattle.std.proofs.lemmas.List.{drop_more, map-append}
-use Rattle.std.proofs.lemmas.List.Elements.{filter-append}
-use Rattle.exact_num.specs.Range.{all_fit}
-use Rattle.exact_num.specs.Rational.{Rational}
-use Rattle.exact_num.specs.Steps.{Step, first_wide}
-use Rattle.exact_num.proofs.StepLaws.{first_wide-append, first_wide-fits, first_wide-nil, first_wide-stops}
-use Rattle.row_core.specs.declared.equation_numbers.TheConstants.{EBA11}
 use Rattle.row_core.specs.declared.place.Place.{Place}
 use Rattle.row_core.specs.declared.place.Place.TheVariants.{Price}
 use Rattle.row_core.specs.declared.place.Stopped.{Stopped}
 use Rattle.row_core.specs.declared.place.Stopped.TheVariants.{Width, Memory}
-use Rattle.row_core.specs.declared.Row.{Row}
-use Rattle.row_core.specs.declared.RowName.{RowName}
-use Rattle.result_tables.specs.Causes.{IsFirstStop}
-use Rattle.result_tables.specs.Prices.{balances, is_balance, price_step, price_steps}
 
 module _ (m : List (RowName × Rational)) where
   -- the place of the first price that doesn't fit

@@ -1,14 +1,5 @@
 -- What is written of a list is what is written of its elements, one after another.
-use Rattle.std.proofs.Common.{◌≡◌, ℕ, zero, suc, ◌+◌, ◌<◌, Bool, List, [], ◌∷◌, ◌++◌, length, map, filter, drop, get_or, sym, ap, ◌∙◌, append_assoc, arith}
-use Rattle.std.specs.List.{AllByRecursion}
-use Rattle.std.proofs.lemmas.Grind.{flat_map-append}
-use Rattle.std.proofs.lemmas.List.{drop_more, map-append}
-use Rattle.std.proofs.lemmas.List.Elements.{filter-append}
-use Rattle.csv.specs.Writing.{default_writer, row_text}
-use Rattle.exact_num.specs.Rational.{Rational}
-use Rattle.plan_files.specs.Files.{Fields}
-use Rattle.plan_files.specs.Texts.{records_text}
-use Rattle.result_tables.specs.Tables.{nonzero}
+use Rattle.result_tables.proofs.Common.{◌≡◌, ℕ, zero, suc, ◌+◌, ◌<◌, Bool, List, [], ◌∷◌, ◌++◌, length, map, filter, drop, get_or, sym, ap, ◌∙◌, append_assoc, arith, AllByRecursion, flat_map-append, drop_more, map-append, filter-append, default_writer, row_text, Rational, Fields, records_text, nonzero}
 
 -- the text of two lists, where it is one after the other
 abbrev pub IsJoined : {A : Type 0} → (List A → List ℕ) → Type 0

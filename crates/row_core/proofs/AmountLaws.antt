@@ -1,23 +1,7 @@
 -- What is made term by term is what an equation's terms are worth, exactly where all numbers fit that this forms.
-use Rattle.std.proofs.Common.{◌≡◌, ℤ, neg_ℤ, Bool, true, false, List, [], ◌∷◌, ◌++◌, ◌&&◌, refl, sym, ap, ap₂, ◌∙◌, subst, Option, Some, None}
-use Rattle.std.specs.Prelude.{IfOk, IfErr, OnOk, Result, Ok, Err}
-use Rattle.exact_num.specs.Formed.{product_formed, sum_formed}
-use Rattle.exact_num.specs.Range.{all_fit}
-use Rattle.exact_num.specs.Rational.{Rational, plus, times}
-use Rattle.exact_num.proofs.StepLaws.{all_fit-append, all_fit-nil}
-use Rattle.row_core.specs.declared.Row.{Row}
-use Rattle.row_core.specs.declared.RowName.{RowName}
+use Rattle.row_core.proofs.Common.{◌≡◌, ℤ, neg_ℤ, Bool, true, false, List, [], ◌∷◌, ◌++◌, ◌&&◌, refl, sym, ap, ap₂, ◌∙◌, subst, Option, Some, None, IfOk, IfErr, OnOk, Result, Ok, Err, product_formed, sum_formed, all_fit, Rational, plus, times, all_fit-append, all_fit-nil, Row, RowName, Stopped, IsStop, Sense, Var, Amount, Whole, Billionths, Factor, Product, Total, Negative, value_of_amount, amount_formed, only_if, product_of, total_of, negative_of, number_of, terms_with, Side, no_terms, with_number, with_amounts, can_be_written, EquationTerms, coefficients_of, coefficients_formed, terms_of, right_of, equation_formed, IsWritten, SaysTheSame, HasSigns, written_entries, written_right, written_formed}
 use Rattle.row_core.specs.declared.place.Place.TheVariants.{Row as AtRow}
-use Rattle.row_core.specs.declared.place.Stopped.{Stopped}
-use Rattle.row_core.specs.Stops.{IsStop}
-use Rattle.row_core.specs.declared.Sense.{Sense}
-use Rattle.row_core.specs.declared.Var.{Var}
-use Rattle.row_core.specs.Amounts.{Amount, Whole, Billionths, Factor, Product, Total, Negative, value_of_amount, amount_formed}
-use Rattle.row_core.specs.Calculated.{only_if, product_of, total_of, negative_of, number_of, terms_with, Side, no_terms, with_number, with_amounts, can_be_written}
-use Rattle.row_core.specs.EquationTerms.{EquationTerms, coefficients_of, coefficients_formed, terms_of, right_of, equation_formed, IsWritten}
 use Rattle.row_core.specs.Terms.{with_term, term_formed, gathered_onto, gathered_formed_onto, gathered_formed}
-use Rattle.row_core.specs.Values.{SaysTheSame, HasSigns}
-use Rattle.row_core.specs.Written.{written_entries, written_right, written_formed}
 
 -- ---- tests
 

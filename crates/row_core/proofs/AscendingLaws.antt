@@ -1,12 +1,5 @@
 -- Lists that ascend by a total order: each is before all later ones, and what may be put at the end.
-use Rattle.std.proofs.Common.{◌≡◌, ℕ, zero, suc, ◌<◌, Bool, true, false, List, [], ◌∷◌, ◌++◌, ◌&&◌, length, get_or, refl, arith}
-use Rattle.std.specs.Cmp.{IsTotalOrder}
-use Rattle.std.specs.Cmp.Derive.{both_true}
-use Rattle.std.specs.List.{AllPairs}
-use Rattle.std.specs.Ordering.{is_lt}
-use Rattle.std.specs.declared.cmp.Ordering.{Ordering}
-use Rattle.std.specs.declared.cmp.Ordering.TheVariants.{Less, Equal, Greater}
-use Rattle.row_core.specs.Numbers.{before_first, ascends}
+use Rattle.row_core.proofs.Common.{◌≡◌, ℕ, zero, suc, ◌<◌, Bool, true, false, List, [], ◌∷◌, ◌++◌, ◌&&◌, length, get_or, refl, arith, IsTotalOrder, both_true, AllPairs, is_lt, Ordering, Less, Equal, Greater, before_first, ascends}
 
 -- two tests of which both are passed
 pub both_passed : (a b : Bool) → (a && b) ≡ true → (a ≡ true) × (b ≡ true)
@@ -51,34 +44,3 @@ ascends-AllPairs cmp total (x ∷ xs) h (suc i) zero d less inside = absurd (ome
 ascends-AllPairs cmp total (x ∷ xs) h zero (suc j) d less inside = ascends-first cmp total x xs h j d (omega arith)
 ascends-AllPairs cmp total (x ∷ xs) h (suc i) (suc j) d less inside =
     ascends-AllPairs cmp total xs (ascends-tail cmp x xs h) i j d (omega arith) (omega arith)
-
--- each of the list is before y
-abbrev pub all_before : {K : Type 0} → (K → K → Ordering) → List K → K → Bool
-all_before cmp [] y = true
-all_before cmp (x ∷ xs) y = is_lt (cmp x y) && all_before cmp xs y
-
-before_first-push : {K : Type 0} (cmp : K → K → Ordering) (x : K) (xs : List K) (y : K) → before_first cmp x xs ≡ true → is_lt (cmp x y) ≡ true → before_first cmp x (xs ++ y ∷ []) ≡ true
-before_first-push cmp x [] y h k = k
-before_first-push cmp x (z ∷ zs) y h k = h
-
--- an ascending list may be followed by what all of it is before
-pub ascends-push : {K : Type 0} (cmp : K → K → Ordering) (xs : List K) (y : K) → ascends cmp xs ≡ true → all_before cmp xs y ≡ true → ascends cmp (xs ++ y ∷ []) ≡ true
-ascends-push cmp [] y h k = refl
-ascends-push cmp (x ∷ xs) y h k =
-    let up = both_passed (before_first cmp x xs) (ascends cmp xs) h in
-    let last = both_passed (is_lt (cmp x y)) (all_before cmp xs y) k in
-    both_true (before_first-push cmp x xs y up.0 last.0) (ascends-push cmp xs y up.1 last.1)
-
--- then all of it is before what comes after
-pub all_before-push : {K : Type 0} (cmp : K → K → Ordering) → IsTotalOrder cmp → (xs : List K) (y z : K) → all_before cmp xs y ≡ true → cmp y z ≡ Less → all_before cmp (xs ++ y ∷ []) z ≡ true
-all_before-push cmp total [] y z h less = both_true (test-from_Less (cmp y z) less) refl
-all_before-push cmp total (x ∷ xs) y z h less =
-    let parts = both_passed (is_lt (cmp x y)) (all_before cmp xs y) h in
-    both_true (test-from_Less (cmp x z) (total.trans x y z (Less-from_test (cmp x y) parts.0) less)) (all_before-push cmp total xs y z parts.1 less)
-
--- what is before y is before all that y is before
-pub all_before-later : {K : Type 0} (cmp : K → K → Ordering) → IsTotalOrder cmp → (xs : List K) (y z : K) → all_before cmp xs y ≡ true → cmp y z ≡ Less → all_before cmp xs z ≡ true
-all_before-later cmp total [] y z h less = refl
-all_before-later cmp total (x ∷ xs) y z h less =
-    let parts = both_passed (is_lt (cmp x y)) (all_before cmp xs y) h in
-    both_true (test-from_Less (cmp x z) (total.trans x y z (Less-from_test (cmp x y) parts.0) less)) (all_before-later cmp total xs y z parts.1 less)

@@ -1,12 +1,5 @@
 -- Two rows are read side by side, entry by entry.
-use Rattle.std.proofs.Common.{◌≡◌, suc, ◌<◌, ℤ, true, false, List, [], ◌∷◌, ◌++◌, ◌&&◌, length, refl, sym, ap, ◌∙◌, arith}
-use Rattle.std.specs.declared.cmp.Ordering.{Ordering}
-use Rattle.std.specs.declared.cmp.Ordering.TheVariants.{Less, Equal, Greater}
-use Rattle.exact_num.specs.Range.{all_fit}
-use Rattle.exact_num.proofs.StepLaws.{all_fit-append}
-use Rattle.row_core.specs.declared.Var.{Var}
-use Rattle.row_core.specs.Order.{var_cmp}
-use Rattle.row_core.specs.Combined.{Beside, left_only, right_only, first_beside, beside, less, less_formed, all_less_formed, entry_unless_zero, lessened}
+use Rattle.row_core.proofs.Common.{◌≡◌, suc, ◌<◌, ℤ, true, false, List, [], ◌∷◌, ◌++◌, ◌&&◌, length, refl, sym, ap, ◌∙◌, arith, Ordering, Less, Equal, Greater, all_fit, all_fit-append, Var, var_cmp, Beside, left_only, right_only, first_beside, beside, less, less_formed, all_less_formed, entry_unless_zero, lessened}
 
 both : Var × ℤ → Var × ℤ → Beside
 both e o = record { variable = e.0; number = e.1; other = o.1 }

@@ -1,10 +1,5 @@
 -- Two small rows, combined by computation.
-use Rattle.std.proofs.Common.{◌≡◌, pos, negsuc, [], ◌∷◌, refl}
-use Rattle.exact_num.specs.Gcd.{gcd_of, gcd_within}
-use Rattle.exact_num.specs.Rational.{lowest}
-use Rattle.row_core.specs.declared.Var.{Var}
-use Rattle.row_core.specs.Forms.{Form}
-use Rattle.row_core.specs.Combined.{combined, combined_scale, combined_formed}
+use Rattle.row_core.proofs.Common.{◌≡◌, pos, negsuc, [], ◌∷◌, refl, gcd_of, gcd_within, lowest, Var, Form, combined, combined_scale, combined_formed}
 
 abbrev x : Var
 x = record { kind = 1; index = record { region = 0; other = 0; slice = 0; tech = 0; fuel = 0; emission = 0; mode = 0; year = 0 } }

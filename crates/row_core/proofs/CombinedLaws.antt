@@ -1,35 +1,12 @@
 -- What a combined row means.
-use Rattle.std.proofs.Common.{◌≡◌, ◌≢◌, ◌<◌, ℤ, pos, ◌-ℤ◌, ◌*ℤ◌, Bool, true, false, List, [], ◌∷◌, ◌&&◌, refl, sym, ap, ap₂, ◌∙◌, subst, arith}
-use Rattle.std.specs.Prelude.{unsigned_abs, ◌<ℤ◌, ◌↔◌}
-use Rattle.std.specs.Cmp.Derive.{both_true}
-use Rattle.std.proofs.lemmas.Int.{ints}
-use Rattle.exact_num.specs.Formed.{common}
-use Rattle.exact_num.specs.Gcd.{gcd_of}
-use Rattle.exact_num.specs.Range.{InRange, in_range, all_fit}
-use Rattle.exact_num.specs.Value.{value_of}
-use Rattle.exact_num.specs.declared.fraction.Frac.{Frac}
-use Rattle.exact_num.proofs.GcdLaws.{gcd_of-dvd_left, gcd_of-dvd_right, gcd_of_pos_left}
-use Rattle.exact_num.proofs.Integers.{int_div-mul, *ℤ_pos, *ℤ_cancel, unsigned_abs_pos, nonzero_of_pos}
-use Rattle.exact_num.proofs.RangeLaws.{InRange-from_test}
-use Rattle.exact_num.proofs.RationalLaws.{lowest-cross, lowest-IsLowest}
-use Rattle.exact_num.proofs.Ring.{ring, products, zero-*ℤ, *ℤ_comm}
-use Rattle.row_core.specs.declared.Row.{Row}
-use Rattle.row_core.specs.declared.Sense.{Sense}
+use Rattle.row_core.proofs.Common.{◌≡◌, ◌≢◌, ◌<◌, ℤ, pos, ◌-ℤ◌, ◌*ℤ◌, Bool, true, false, List, [], ◌∷◌, ◌&&◌, refl, sym, ap, ap₂, ◌∙◌, subst, arith, unsigned_abs, ◌<ℤ◌, ◌↔◌, both_true, ints, common, gcd_of, InRange, in_range, all_fit, value_of, Frac, gcd_of-dvd_left, gcd_of-dvd_right, gcd_of_pos_left, int_div-mul, *ℤ_pos, *ℤ_cancel, unsigned_abs_pos, nonzero_of_pos, InRange-from_test, lowest-cross, lowest-IsLowest, ring, products, zero-*ℤ, *ℤ_comm, Row, Sense, Var, number_at, row_sum, Stands, alone, Form, form_of, less, less_formed, beside, all_less_formed, undivided_entries, undivided_right, undivided_formed, divisor_by, scale_by, row_factor, def_factor, IsScaled, SaysTheSameUnder, IsMade, IsCombined, all_fit-append, all_fit-nil, all_fit-cons}
 use Rattle.row_core.specs.declared.Sense.TheVariants.{Least, Equal, Most}
-use Rattle.row_core.specs.declared.Var.{Var}
 use Rattle.row_core.specs.Numbers.{numbers_of, all_in_range, DividesAll, in_range as row_in_range}
-use Rattle.row_core.specs.Rows.{number_at, row_sum}
-use Rattle.row_core.specs.Statements.{Stands}
-use Rattle.row_core.specs.Values.{alone}
 use Rattle.row_core.proofs.AscendingLaws.{both_passed}
 use Rattle.row_core.proofs.DivisionLaws.{factor_pos}
 use Rattle.row_core.proofs.MeaningLaws.{Stands-times, row_sum-alone}
 use Rattle.row_core.proofs.WrittenLaws.{row_divisor-is, row_sum-divided}
-use Rattle.row_core.specs.Forms.{Form, form_of}
-use Rattle.row_core.specs.Combined.{less, less_formed, beside, all_less_formed, undivided_entries, undivided_right, undivided_formed, divisor_by, scale_by, row_factor, def_factor}
-use Rattle.row_core.specs.Scaled.{IsScaled, SaysTheSameUnder, IsMade, IsCombined}
 use Rattle.row_core.proofs.LessenedLaws.{minus-is, row_sum-lessened}
-use Rattle.exact_num.proofs.StepLaws.{all_fit-append, all_fit-nil, all_fit-cons}
 
 -- ---- numbers that fit
 

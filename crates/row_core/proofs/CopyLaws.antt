@@ -1,8 +1,5 @@
 -- Copies of rows, one after another.
-use Rattle.std.proofs.Common.{◌≡◌, ℕ, ◌+◌, ◌<◌, ◌≤◌, List, [], ◌∷◌, ◌++◌, length, get_or, drop, map, sym, ap, ◌∙◌, append_assoc, append-nil}
-use Rattle.std.proofs.lemmas.List.{at_drop_all, drop_more, map-append}
-use Rattle.row_core.specs.declared.Row.{Row}
-use Rattle.row_core.specs.Contents.{RowContents, contents_of}
+use Rattle.row_core.proofs.Common.{◌≡◌, ℕ, ◌+◌, ◌<◌, ◌≤◌, List, [], ◌∷◌, ◌++◌, length, get_or, drop, map, sym, ap, ◌∙◌, append_assoc, append-nil, at_drop_all, drop_more, map-append, Row, RowContents, contents_of}
 
 module _ (rows : List Row) where
   pub copies-next : (i : ℕ) (row copy : Row) (old new : List Row) → i < length rows → row ≡ get_or rows i row → new ≡ old ++ copy ∷ [] → contents_of copy ≡ contents_of row → map contents_of old ++ map contents_of (drop i rows) ≡ map contents_of rows

@@ -1,26 +1,7 @@
 -- Common denominators, and the greatest common divisor of a list.
-use Rattle.std.proofs.Common.{◌≡◌, ◌≢◌, ℕ, ◌*◌, ℤ, pos, ◌+ℤ◌, ◌*ℤ◌, Bool, true, false, List, [], ◌∷◌, ◌&&◌, refl, sym, ap, ap₂, ◌∙◌, subst, arith, if◌then◌else◌}
+use Rattle.row_core.proofs.Common.{◌≡◌, ◌≢◌, ℕ, ◌*◌, ℤ, pos, ◌+ℤ◌, ◌*ℤ◌, Bool, true, false, List, [], ◌∷◌, ◌&&◌, refl, sym, ap, ap₂, ◌∙◌, subst, arith, if◌then◌else◌, unsigned_abs, int_div, ◌<ℤ◌, ⊤, ◌∣◌, ints, unsigned_abs-mul, dvd_antisymm, dvd_trans, dvd_refl, dvd-zero, dvd-mul_left, mul-dvd-mul_left, one-dvd, common, gcd_of, Rational, gcd_of-dvd_left, gcd_of-dvd_right, dvd-gcd_of, gcd_of-one, one-gcd_of, int_div-mul, pos-unsigned_abs, <ℤ_cancel, *ℤ_pos, *ℤ_cancel, nonzero_of_pos, unsigned_abs-zero, common_pos, *ℤ_assoc, *ℤ-one, one-*ℤ, zero-*ℤ, zero-+ℤ, all_fit-cons, Var, is_zero, DividesAll, kept, widened, widened_by_all, widened_by_each, denominators, common_divisor, numerator_over, entries_over, widened_by_term, IsOver, IsSumOver, row_sum}
 use borrow.Author.Tests.{eqb-true}
-use Rattle.std.specs.Prelude.{unsigned_abs, int_div, ◌<ℤ◌, ⊤}
-use Rattle.std.specs.Int.{◌∣◌}
-use Rattle.std.proofs.lemmas.Int.{ints, unsigned_abs-mul}
-use Rattle.std.proofs.lemmas.Nat.Gcd.{dvd_antisymm, dvd_trans, dvd_refl, dvd-zero}
-use Rattle.std.proofs.Math.Nat.{dvd-mul_left, mul-dvd-mul_left, one-dvd}
-use Rattle.exact_num.specs.Formed.{common}
-use Rattle.exact_num.specs.Gcd.{gcd_of}
-use Rattle.exact_num.specs.Rational.{Rational}
-use Rattle.exact_num.proofs.GcdLaws.{gcd_of-dvd_left, gcd_of-dvd_right, dvd-gcd_of, gcd_of-one, one-gcd_of}
-use Rattle.exact_num.proofs.Integers.{int_div-mul, pos-unsigned_abs, <ℤ_cancel, *ℤ_pos, *ℤ_cancel, nonzero_of_pos, unsigned_abs-zero}
-use Rattle.exact_num.proofs.RationalLaws.{common_pos}
-use Rattle.exact_num.proofs.Ring.{*ℤ_assoc, *ℤ-one, one-*ℤ, zero-*ℤ, zero-+ℤ}
 use Rattle.exact_num.specs.Range.{all_fit, in_range as fits}
-use Rattle.exact_num.proofs.StepLaws.{all_fit-cons}
-use Rattle.row_core.specs.declared.Var.{Var}
-use Rattle.row_core.specs.Numbers.{is_zero, DividesAll}
-use Rattle.row_core.specs.Written.{kept, widened, widened_by_all, widened_by_each, denominators, common_divisor, numerator_over, entries_over}
-use Rattle.row_core.specs.TermSteps.{widened_by_term}
-use Rattle.row_core.specs.Values.{IsOver, IsSumOver}
-use Rattle.row_core.specs.Rows.{row_sum}
 
 -- ---- common denominators
 

@@ -1,9 +1,5 @@
 -- The rows of one equation after another are all rows, where these stand in order.
-use Rattle.std.proofs.Common.{◌≡◌, ◌≢◌, ℕ, zero, suc, ◌+◌, ◌<◌, ◌≤◌, Bool, true, false, ◌&&◌, ◌||◌, cond, nat_eq, List, [], ◌∷◌, ◌++◌, filter, refl, ap, ap₂, sym, ◌∙◌, arith, eq-eqb, eqb-true}
-use Rattle.std.specs.Prelude.{⊤}
-use Rattle.std.specs.List.{AllByRecursion, enumerate_from, flat_map, range_with_len}
-use Rattle.row_core.specs.Contents.{RowContents}
-use Rattle.row_core.specs.Sources.{AreInOrder, has_entry_of, has_kind, is_of_equation, rows_of_equation}
+use Rattle.row_core.proofs.Common.{◌≡◌, ◌≢◌, ℕ, zero, suc, ◌+◌, ◌<◌, ◌≤◌, Bool, true, false, ◌&&◌, ◌||◌, cond, nat_eq, List, [], ◌∷◌, ◌++◌, filter, refl, ap, ap₂, sym, ◌∙◌, arith, eq-eqb, eqb-true, ⊤, AllByRecursion, enumerate_from, flat_map, range_with_len, RowContents, AreInOrder, has_entry_of, has_kind, is_of_equation, rows_of_equation}
 
 -- ---- what holds of each row
 
@@ -66,10 +62,6 @@ none-earlier low eq [] below rise = refl
 none-earlier low eq (r ∷ rows) below rise =
     ap (λ (b : Bool). cond b (r ∷ of_equation eq rows) (of_equation eq rows)) (other eq r.1.name.eq (omega (arith, below, rise.0)))
     ∙ none-earlier r.1.name.eq eq rows (omega (arith, below, rise.0)) rise.1
-
--- the head is the first row of its equation, and no row of a later one
-head-own : (r : ℕ × RowContents) (rows : List (ℕ × RowContents)) → of_equation r.1.name.eq (r ∷ rows) ≡ r ∷ of_equation r.1.name.eq rows
-head-own r rows = ap (λ (b : Bool). cond b (r ∷ of_equation r.1.name.eq rows) (of_equation r.1.name.eq rows)) (eq-eqb r.1.name.eq r.1.name.eq refl)
 
 head-passed : (r : ℕ × RowContents) (rows : List (ℕ × RowContents)) (e : ℕ) → nat_eq r.1.name.eq e ≡ false → of_equation e (r ∷ rows) ≡ of_equation e rows
 head-passed r rows e apart = ap (λ (b : Bool). cond b (r ∷ of_equation e rows) (of_equation e rows)) apart

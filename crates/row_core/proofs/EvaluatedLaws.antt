@@ -1,17 +1,6 @@
 -- Sums of entry times value, entry by entry.
-use Rattle.std.proofs.Common.{◌≡◌, ℕ, ◌+◌, ◌<◌, ◌≤◌, ℤ, pos, neg_ℤ, ◌+ℤ◌, ◌-ℤ◌, ◌*ℤ◌, Bool, true, false, ◌&&◌, List, [], ◌∷◌, length, get_or, drop, sym, ap, ◌∙◌, subst, arith}
-use Rattle.std.proofs.lemmas.Int.{ints}
-use Rattle.std.proofs.lemmas.List.{drop_more, at_drop_all}
-use Rattle.exact_num.specs.Range.{all_fit}
-use Rattle.exact_num.specs.Rational.{Rational, whole, plus, times, negated}
-use Rattle.exact_num.proofs.RationalLaws.{minus-is_plus}
-use Rattle.exact_num.proofs.Ring.{one-*ℤ, zero-+ℤ}
-use Rattle.exact_num.proofs.StepLaws.{all_fit-append, all_fit-nil}
-use Rattle.row_core.specs.declared.Var.{Var}
-use Rattle.row_core.specs.Rows.{row_sum}
-use Rattle.row_core.specs.Values.{IsOver}
+use Rattle.row_core.proofs.Common.{◌≡◌, ℕ, ◌+◌, ◌<◌, ◌≤◌, ℤ, pos, neg_ℤ, ◌+ℤ◌, ◌-ℤ◌, ◌*ℤ◌, Bool, true, false, ◌&&◌, List, [], ◌∷◌, length, get_or, drop, sym, ap, ◌∙◌, subst, arith, ints, drop_more, at_drop_all, all_fit, Rational, whole, plus, times, negated, minus-is_plus, one-*ℤ, zero-+ℤ, all_fit-append, all_fit-nil, Var, row_sum, IsOver, sum_from, term_formed, sum_from_formed, evaluated, AreOver}
 use Rattle.row_core.proofs.SumLaws.{IsOver-plus, IsOver-times, IsOver-negated, IsOver-own, IsOver-whole, IsOver-zero}
-use Rattle.row_core.specs.Evaluated.{sum_from, term_formed, sum_from_formed, evaluated, AreOver}
 
 -- ---- one entry further, over the list that the code reads
 

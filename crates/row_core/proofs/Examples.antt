@@ -1,23 +1,11 @@
 -- The definitions, computed on examples: some that hold, and near misses that don't.
-use Rattle.std.proofs.Common.{◌≡◌, ℕ, ◌-◌, ◌^◌, ℤ, pos, negsuc, Bool, true, false, List, [], ◌∷◌, filter, length, map, refl, arith, nat_lt}
+use Rattle.row_core.proofs.Common.{◌≡◌, ℕ, ◌-◌, ◌^◌, ℤ, pos, negsuc, Bool, true, false, List, [], ◌∷◌, filter, length, map, refl, arith, nat_lt, list_all, range_with_len, nat_cmp, dvd_of_mod-eq-zero, pointwise, Var, equations, Equation, word_of_equation, equation_has, kinds, Kind, word_of_kind, kind_has, kind_is_free, new_capacity, accumulated_new_capacity, caa1, caa2, var_cmp, row_name_cmp, number_at, statement_of, holds, is_plain}
 use Rattle.std.specs.Prelude.{codes, count_by, nat_eq, ◌&&◌}
-use Rattle.std.specs.List.{list_all, range_with_len}
-use Rattle.std.specs.Ordering.{nat_cmp}
-use Rattle.std.proofs.lemmas.Nat.Gcd.{dvd_of_mod-eq-zero}
 use Rattle.std.specs.declared.cmp.Ordering.TheVariants.{Less, Greater, Equal as Alike}
-use lib.Pointwise.{pointwise}
-use Rattle.row_core.specs.declared.Var.{Var}
 use Rattle.row_core.specs.declared.kind_numbers.TheConstants.{ANNUAL_EMISSIONS, ANNUAL_FIXED_OPERATING_COST, ANNUAL_TECHNOLOGY_EMISSION, ANNUAL_TECHNOLOGY_EMISSIONS_PENALTY, ANNUAL_TECHNOLOGY_EMISSION_BY_MODE, ANNUAL_TECHNOLOGY_EMISSION_PENALTY_BY_EMISSION, ANNUAL_VARIABLE_OPERATING_COST, CAPITAL_INVESTMENT, DISCOUNTED_CAPITAL_INVESTMENT, DISCOUNTED_OPERATING_COST, DISCOUNTED_SALVAGE_VALUE, DISCOUNTED_TECHNOLOGY_EMISSIONS_PENALTY, KIND_COUNT, MODEL_PERIOD_COST_BY_REGION, MODEL_PERIOD_EMISSIONS, OPERATING_COST, RATE_OF_ACTIVITY, SALVAGE_VALUE, TOTAL_DISCOUNTED_COST, TOTAL_DISCOUNTED_COST_BY_TECHNOLOGY, TRADE, TRADE_ANNUAL}
 use Rattle.row_core.specs.declared.Sense.TheVariants.{Least, Equal, Most}
-use Rattle.row_core.specs.Equations.{equations, Equation, word_of_equation, equation_has}
-use Rattle.row_core.specs.Kinds.{kinds, Kind, word_of_kind, kind_has, kind_is_free}
-use Rattle.row_core.specs.Names.{new_capacity, accumulated_new_capacity, caa1, caa2}
 use Rattle.row_core.specs.Numbers.{variables_of, numbers_of, ascends, none_zero, in_range, all_in_range, IsLowest}
-use Rattle.row_core.specs.Order.{var_cmp, row_name_cmp}
 use Rattle.row_core.specs.SortKeys.{sort_key}
-use Rattle.row_core.specs.Rows.{number_at, statement_of}
-use Rattle.row_core.specs.Statements.{holds}
-use Rattle.row_core.specs.Words.{is_plain}
 use Rattle.row_core.proofs.RowLaws.{IsLowest-unit}
 
 -- ---- kinds and equations

@@ -1,7 +1,5 @@
 -- Products over ℤ: their laws with sums, and that a positive factor keeps and reflects the order.
-use Rattle.std.proofs.Common.{◌≡◌, ℕ, zero, suc, ◌*◌, ◌<◌, ℤ, pos, ◌+ℤ◌, ◌-ℤ◌, ◌*ℤ◌, sym, ap, ◌∙◌, arith}
-use Rattle.std.specs.Prelude.{unsigned_abs, ◌<ℤ◌, ◌≤ℤ◌}
-use Rattle.std.proofs.lemmas.Int.{ints, by_lt_z}
+use Rattle.row_core.proofs.Common.{◌≡◌, ℕ, zero, suc, ◌*◌, ◌<◌, ℤ, pos, ◌+ℤ◌, ◌-ℤ◌, ◌*ℤ◌, sym, ap, ◌∙◌, arith, unsigned_abs, ◌<ℤ◌, ◌≤ℤ◌, ints, by_lt_z}
 use borrow.Author.Differences.{up, down, sum_is_lem, product_is}
 
 -- an equation of naturals times k

@@ -1,9 +1,5 @@
 -- The three numbers that a difference of two products forms.
-use Rattle.std.proofs.Common.{◌≡◌, ℤ, pos, ◌-ℤ◌, ◌+ℤ◌, ◌*ℤ◌, Bool, true, false, ◌&&◌, refl, ap, ap₂, ◌∙◌, arith}
-use Rattle.std.proofs.lemmas.Int.{ints}
-use Rattle.exact_num.specs.Range.{in_range, all_fit}
-use Rattle.exact_num.proofs.Ring.{*ℤ-zero, *ℤ-+ℤ}
-use Rattle.row_core.specs.Combined.{less, less_formed}
+use Rattle.row_core.proofs.Common.{◌≡◌, ℤ, pos, ◌-ℤ◌, ◌+ℤ◌, ◌*ℤ◌, Bool, true, false, ◌&&◌, refl, ap, ap₂, ◌∙◌, arith, ints, in_range, all_fit, *ℤ-zero, *ℤ-+ℤ, less, less_formed}
 
 three : (p q r : Bool) → (p && (q && (r && true))) ≡ (p && (q && r))
 three true true true = refl

@@ -1,21 +1,8 @@
 -- What entries that were lessened keep, and their sums.
-use Rattle.std.proofs.Common.{◌≡◌, ℤ, pos, neg_ℤ, ◌+ℤ◌, ◌-ℤ◌, ◌*ℤ◌, Bool, true, false, List, [], ◌∷◌, ◌++◌, ◌&&◌, not, refl, sym, ap, ap₂, ◌∙◌, subst, arith, if◌then◌else◌}
-use Rattle.std.specs.Cmp.Derive.{both_true}
-use Rattle.std.specs.Ordering.{is_lt, ordering_reverse}
-use Rattle.std.specs.declared.cmp.Ordering.{Ordering}
-use Rattle.std.specs.declared.cmp.Ordering.TheVariants.{Less, Equal, Greater}
-use Rattle.std.proofs.lemmas.Int.{ints}
-use Rattle.exact_num.specs.Range.{in_range, all_fit}
-use Rattle.exact_num.proofs.Ring.{ring, zero-*ℤ, *ℤ-zero}
-use Rattle.exact_num.proofs.StepLaws.{all_fit-append, all_fit-nil, all_fit-cons}
-use Rattle.row_core.specs.declared.Var.{Var}
-use Rattle.row_core.specs.Numbers.{is_zero, numbers_of, variables_of, before_first, ascends, none_zero}
-use Rattle.row_core.specs.Order.{var_cmp}
-use Rattle.row_core.specs.Rows.{row_sum}
+use Rattle.row_core.proofs.Common.{◌≡◌, ℤ, pos, neg_ℤ, ◌+ℤ◌, ◌-ℤ◌, ◌*ℤ◌, Bool, true, false, List, [], ◌∷◌, ◌++◌, ◌&&◌, not, refl, sym, ap, ap₂, ◌∙◌, subst, arith, if◌then◌else◌, both_true, is_lt, ordering_reverse, Ordering, Less, Equal, Greater, ints, in_range, all_fit, ring, zero-*ℤ, *ℤ-zero, all_fit-append, all_fit-nil, all_fit-cons, Var, is_zero, numbers_of, variables_of, before_first, ascends, none_zero, var_cmp, row_sum, Beside, left_only, right_only, all_right_only, first_beside, beside, less, less_formed, all_less_formed, entry_unless_zero, lessened}
 use Rattle.row_core.proofs.AscendingLaws.{both_passed, test-from_Less, ascends-skip}
 use Rattle.row_core.proofs.DivisionLaws.{is_zero-fact}
 use Rattle.row_core.proofs.Orders.{var_cmp_total, var_cmp_exact}
-use Rattle.row_core.specs.Combined.{Beside, left_only, right_only, all_right_only, first_beside, beside, less, less_formed, all_less_formed, entry_unless_zero, lessened}
 use Rattle.row_core.proofs.LessLaws.{less_formed-fits}
 
 -- a - b, as the laws of the ring have it

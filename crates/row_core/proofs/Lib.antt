@@ -1,5 +1,5 @@
+mod Common
 pub mod AscendingLaws
-mod CapacityUses
 pub mod DivisionLaws
 mod Examples
 pub mod Integers

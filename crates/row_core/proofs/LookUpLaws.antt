@@ -1,15 +1,7 @@
 -- Entries that ascend by key have at a key what stands where a binary search finds it.
-use Rattle.std.proofs.Common.{◌≡◌, ℕ, zero, suc, ◌<◌, true, false, List, [], ◌∷◌, length, get_or, refl, sym, ap, ◌∙◌, arith, add-one, inl, inr, if◌then◌else◌}
+use Rattle.row_core.proofs.Common.{◌≡◌, ℕ, zero, suc, ◌<◌, true, false, List, [], ◌∷◌, length, get_or, refl, sym, ap, ◌∙◌, arith, add-one, inl, inr, if◌then◌else◌, IsTotalOrder, is_lt, is_eq, ordering_index, ordering_reverse, Ordering, Less, Equal, Greater, cases_lt, searchable_from_sorted, value_at, keys_of, before_first, ascends}
 use Rattle.std.specs.Prelude.{Some, None}
-use Rattle.std.specs.Cmp.{IsTotalOrder}
 use Rattle.std.specs.List.Sorted.{IsNonDecreasingBy, IsPartitionPoint, IsSortedBy}
-use Rattle.std.specs.Ordering.{is_lt, is_eq, ordering_index, ordering_reverse}
-use Rattle.std.specs.declared.cmp.Ordering.{Ordering}
-use Rattle.std.specs.declared.cmp.Ordering.TheVariants.{Less, Equal, Greater}
-use Rattle.std.proofs.lemmas.Bool.{cases_lt}
-use Rattle.std.proofs.lemmas.List.Sorted.{searchable_from_sorted}
-use Rattle.row_core.specs.LookUps.{value_at}
-use Rattle.row_core.specs.Numbers.{keys_of, before_first, ascends}
 use Rattle.row_core.proofs.AscendingLaws.{both_passed, Less-from_test}
 
 module _ {K A : Type 0} (cmp : K → K → Ordering) (total : IsTotalOrder cmp) where

@@ -1,29 +1,12 @@
 -- What a written row means: it is its terms and right side times a positive number, so it says the same of every plan, and each entry has the sign of its coefficient.
-use Rattle.std.proofs.Common.{◌≡◌, ℕ, ◌<◌, ℤ, pos, ◌+ℤ◌, ◌*ℤ◌, Bool, true, false, List, [], ◌∷◌, refl, sym, ap, ap₂, ◌∙◌, subst, arith, if◌then◌else◌}
-use Rattle.std.specs.Prelude.{◌<ℤ◌, ◌↔◌}
-use Rattle.std.specs.Ordering.{is_eq, is_lt, int_cmp, ordering_reverse}
-use Rattle.std.specs.declared.cmp.Ordering.{Ordering}
+use Rattle.row_core.proofs.Common.{◌≡◌, ℕ, ◌<◌, ℤ, pos, ◌+ℤ◌, ◌*ℤ◌, Bool, true, false, List, [], ◌∷◌, refl, sym, ap, ap₂, ◌∙◌, subst, arith, if◌then◌else◌, ◌<ℤ◌, ◌↔◌, is_eq, is_lt, int_cmp, ordering_reverse, Ordering, ints, Rational, *ℤ-≤ℤ, ≤ℤ_cancel, *ℤ_cancel, *ℤ_pos, nonzero_of_pos, int_div-mul, products, *ℤ-one, *ℤ-zero, zero-*ℤ, +ℤ-zero, zero-+ℤ, Row, Sense, Var, variables_of, numbers_of, ascends, before_first, var_cmp, row_sum, number_at, Stands, IsOver, IsSumOver, SaysTheSame, IsMultiple, alone, kept, common_denominator, cleared_entries, cleared_right, written_divisor, written_entries, written_right}
 use Rattle.std.specs.declared.cmp.Ordering.TheVariants.{Less, Equal as Alike, Greater}
-use Rattle.std.proofs.lemmas.Int.{ints}
-use Rattle.exact_num.specs.Rational.{Rational}
-use Rattle.exact_num.proofs.Integers.{*ℤ-≤ℤ, ≤ℤ_cancel, *ℤ_cancel, *ℤ_pos, nonzero_of_pos, int_div-mul}
 use Rattle.exact_num.proofs.OrderLaws.{int_cmp-mul}
-use Rattle.exact_num.proofs.Ring.{products, *ℤ-one, *ℤ-zero, zero-*ℤ, +ℤ-zero, zero-+ℤ}
-use Rattle.row_core.specs.declared.Row.{Row}
-use Rattle.row_core.specs.declared.Sense.{Sense}
 use Rattle.row_core.specs.declared.Sense.TheVariants.{Least, Equal, Most}
-use Rattle.row_core.specs.declared.Var.{Var}
-use Rattle.row_core.specs.Numbers.{variables_of, numbers_of, ascends, before_first}
-use Rattle.row_core.specs.Order.{var_cmp}
-use Rattle.row_core.specs.Rows.{row_sum, number_at, RowHolds}
-use Rattle.row_core.specs.Statements.{Stands}
-use Rattle.row_core.specs.Terms.{gathered}
-use Rattle.row_core.specs.Values.{IsOver, IsSumOver, SaysTheSame, IsMultiple, alone}
-use Rattle.row_core.specs.Written.{kept, common_denominator, cleared_entries, cleared_right, written_divisor, written_entries, written_right}
 use Rattle.row_core.proofs.AscendingLaws.{both_passed, Less-from_test, ascends-skip}
 use Rattle.row_core.proofs.DivisionLaws.{ArePositive, widened_by_all-is, kept-ArePositive, kept-IsSumOver, entries_over-IsSumOver, numerator_over-IsOver}
 use Rattle.row_core.proofs.Orders.{var_cmp_total, var_cmp_exact}
-use Rattle.row_core.proofs.SumLaws.{IsOver-agree, IsSumOver-agree, IsSumOver-gathered}
+use Rattle.row_core.proofs.SumLaws.{IsOver-agree, IsSumOver-agree}
 use Rattle.row_core.proofs.WrittenLaws.{row_divisor-is, row_sum-divided}
 
 -- ---- the row is a multiple of its terms and right side
@@ -75,14 +58,6 @@ multiple-SaysTheSame terms right row m q x s n r positive sum over =
     let across = λ (h : Here (total *ℤ (m.down *ℤ s)) ((row.rhs *ℤ pos q) *ℤ (m.down *ℤ s))). subst (λ z. Here (n *ℤ m.up) z) rights (subst (λ y. Here y ((row.rhs *ℤ pos q) *ℤ (m.down *ℤ s))) lefts h) in
     let back = λ (h : Here (n *ℤ m.up) ((r *ℤ pos q) *ℤ m.up)). subst (λ y. Here y ((row.rhs *ℤ pos q) *ℤ (m.down *ℤ s))) (sym lefts) (subst (λ z. Here (n *ℤ m.up) z) (sym rights) h) in
     (λ h. second.1 (across (first.0 h)), λ h. first.1 (back (second.0 h)))
-
--- what a row in this sense says, from the values over s of its terms as they are written, and of its right side
-pub row_says : (written : List (Var × Rational)) (right : Rational) (row : Row) (sense : Sense) (q : ℕ) (x : Var → ℤ) (s n r : ℤ) → SaysTheSame (gathered written) right row → row.sense ≡ sense
-    → pos 0 <ℤ s → IsSumOver s x written n → IsOver s right r → RowHolds row q x ↔ Stands sense n (r *ℤ pos q)
-row_says written right row sense q x s n r says in_sense positive sum over =
-    subst (λ o. RowHolds row q x ↔ Stands o n (r *ℤ pos q)) in_sense (says q x s n r positive (IsSumOver-gathered s x written n sum) over)
-
--- ---- and each entry has the sign of its coefficient
 
 -- the plan of 1 at a variable finds nothing after it
 row_sum-following : (v : Var) (es : List (Var × ℤ)) → ascends var_cmp (v ∷ variables_of es) ≡ true → row_sum (alone v) es ≡ pos 0

@@ -1,7 +1,5 @@
 -- Being in a list, as a fact that is taken apart element by element.
-use Rattle.std.proofs.Common.{◌≡◌, ℕ, zero, suc, ◌<◌, Bool, true, false, cond, List, [], ◌∷◌, ◌++◌, map, filter, length, ap, sym, ◌∙◌, refl, subst, arith, ◌⊎◌, inl, inr}
-use Rattle.std.specs.Prelude.{slice_index_or, Contains}
-use Rattle.std.specs.List.{flat_map}
+use Rattle.row_core.proofs.Common.{◌≡◌, ℕ, zero, suc, ◌<◌, Bool, true, false, cond, List, [], ◌∷◌, ◌++◌, map, filter, length, ap, sym, ◌∙◌, refl, subst, arith, ◌⊎◌, inl, inr, slice_index_or, Contains, flat_map}
 
 -- x is an element of the list
 abbrev pub Has : {A : Type 0} → List A → A → Type 0

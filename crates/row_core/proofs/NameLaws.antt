@@ -1,26 +1,6 @@
 -- Texts that grow at their end, and members with commas between them.
-use Rattle.std.proofs.Common.{◌≡◌, ℕ, ◌+◌, ◌<◌, List, [], ◌∷◌, ◌++◌, Bool, true, cond, length, take, get_or, ltb, refl, ap, sym, ◌∙◌, map, append_assoc, arith}
-use Rattle.std.specs.List.{join_with_byte}
-use Rattle.std.proofs.lemmas.List.{append-nil, length-map, length-take-le, map-append, take_more}
-use Rattle.std.proofs.lemmas.Bool.{lt-ltb}
-use Rattle.std.proofs.Math.Nat.{zero-lt-suc}
+use Rattle.row_core.proofs.Common.{◌≡◌, ℕ, ◌+◌, ◌<◌, List, [], ◌∷◌, ◌++◌, Bool, true, cond, length, take, get_or, ltb, refl, ap, sym, ◌∙◌, map, append_assoc, arith, join_with_byte, length-map, length-take-le, map-append, take_more, lt-ltb, zero-lt-suc, Extends}
 use Rattle.std.proofs.Math.Seq.{take-append_seam}
-use Rattle.row_core.specs.NameTexts.{Extends}
-
--- a text begins with itself
-pub extends_itself : (old : List ℕ) → Extends old old
-extends_itself old = record { added = []; whole = sym (append-nil old) }
-
--- a longer text begins with the shorter one
-pub extends_by : (old added new : List ℕ) → new ≡ old ++ added → Extends old new
-extends_by old added new whole = record { added = added; whole = whole }
-
--- what begins with a text that begins with another begins with that
-pub extends_further : (old mid new : List ℕ) → Extends old mid → Extends mid new → Extends old new
-extends_further old mid new first second = record {
-  added = first.added ++ second.added;
-  whole = second.whole ∙ ap (λ (front : List ℕ). front ++ second.added) first.whole ∙ append_assoc old first.added second.added;
-}
 
 -- a prefix of a text that begins with another
 pub front_of : (old new : List ℕ) → Extends old new → take (length old) new ≡ old

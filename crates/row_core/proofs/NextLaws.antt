@@ -1,20 +1,9 @@
 -- The variable that comes next in two rows, by the cases of where it stands.
-use Rattle.std.proofs.Common.{◌≡◌, ℕ, ◌+◌, ◌<◌, ◌≤◌, ℤ, pos, true, List, [], ◌∷◌, length, get_or, drop, sym, ap, ap₂, ◌∙◌, to_z, of_z}
-use Rattle.std.specs.Int.{w128}
-use Rattle.std.proofs.lemmas.Int.{ints}
-use Rattle.std.proofs.lemmas.List.{drop_more, at_drop_all}
-use Rattle.std.specs.declared.cmp.Ordering.TheVariants.{Less, Equal, Greater}
-use Rattle.exact_num.specs.Range.{InRange, all_fit}
-use Rattle.exact_num.proofs.RangeLaws.{back_in_range}
-use Rattle.row_core.specs.declared.Var.{Var}
-use Rattle.row_core.specs.Numbers.{numbers_of}
-use Rattle.row_core.specs.Order.{var_cmp}
+use Rattle.row_core.proofs.Common.{◌≡◌, ℕ, ◌+◌, ◌<◌, ◌≤◌, ℤ, pos, true, List, [], ◌∷◌, length, get_or, drop, sym, ap, ap₂, ◌∙◌, to_z, of_z, w128, ints, drop_more, at_drop_all, Less, Equal, Greater, InRange, all_fit, back_in_range, Var, numbers_of, var_cmp, Beside, left_only, right_only, beside, arith}
 use Rattle.row_core.proofs.WritingSteps.{entries_fit-at}
 use Rattle.row_core.specs.declared.merging.Next.{Next}
-use Rattle.row_core.specs.Combined.{Beside, left_only, right_only, beside}
 use Rattle.row_core.specs.Nexts.{IsNext}
 use Rattle.row_core.proofs.BesideLaws.{beside-Less, beside-Equal, beside-Greater}
-use Rattle.std.proofs.Common.{arith}
 
 -- a number that is read back from its bits
 abbrev pub read : ℤ → ℤ

@@ -1,15 +1,8 @@
 -- The orders on subscripts, variables and row names are total, and what compares alike is the same.
-use Rattle.std.proofs.Common.{◌≡◌, ℕ, refl}
-use Rattle.std.specs.declared.cmp.Ordering.{Ordering}
-use Rattle.std.specs.declared.cmp.Ordering.TheVariants.{Less, Equal, Greater}
-use Rattle.std.specs.Cmp.{IsTotalOrder}
-use Rattle.std.specs.Ordering.{nat_cmp, ordering_then}
+use Rattle.row_core.proofs.Common.{◌≡◌, ℕ, refl, Ordering, Less, Equal, Greater, IsTotalOrder, nat_cmp, ordering_then, Var, RowName, index_cmp, var_cmp, row_name_cmp}
 use Rattle.std.proofs.lemmas.Cmp.{on_total, then_total, nat_cmp_total}
 use Rattle.std.proofs.lemmas.Map.Lookups.{CmpEqualImpliesEq, exact_unsigned}
 use Rattle.row_core.specs.declared.Index.{Index}
-use Rattle.row_core.specs.declared.Var.{Var}
-use Rattle.row_core.specs.declared.RowName.{RowName}
-use Rattle.row_core.specs.Order.{index_cmp, var_cmp, row_name_cmp}
 use Rattle.row_core.specs.OrderLaws.{index_cmp_total}
 
 -- a function of eight numbers has one value where they are the same

@@ -1,12 +1,6 @@
 -- Whether a row holds of a plan doesn't depend on the common denominator over which the plan is written.
-use Rattle.std.proofs.Common.{◌≡◌, ℕ, ◌*◌, ◌<◌, ℤ, pos, ◌+ℤ◌, ◌*ℤ◌, List, [], ◌∷◌, ◌++◌, refl, sym, ap, ◌∙◌, subst}
-use Rattle.std.proofs.Math.Nat.{mul_comm}
-use Rattle.std.specs.Prelude.{◌↔◌}
-use Rattle.row_core.specs.declared.Sense.{Sense}
+use Rattle.row_core.proofs.Common.{◌≡◌, ℕ, ◌*◌, ◌<◌, ℤ, pos, ◌+ℤ◌, ◌*ℤ◌, List, [], ◌∷◌, ◌++◌, refl, sym, ap, ◌∙◌, subst, mul_comm, ◌↔◌, Sense, Var, row_sum, statement_of, SameValues, Stands, Holds}
 use Rattle.row_core.specs.declared.Sense.TheVariants.{Least, Equal, Most}
-use Rattle.row_core.specs.declared.Var.{Var}
-use Rattle.row_core.specs.Rows.{row_sum, statement_of, SameValues}
-use Rattle.row_core.specs.Statements.{Stands, Holds}
 use Rattle.row_core.proofs.Integers.{*ℤ_comm, *ℤ_left_comm, *ℤ-+ℤ, *ℤ-zero, +ℤ_assoc, zero-+ℤ, scaled_le, unscaled_le, unscaled_eq}
 
 -- plans with the same numbers give the same sum

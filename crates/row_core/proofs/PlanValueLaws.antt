@@ -1,22 +1,6 @@
 -- What a list of fractions has at a key is worth what the list of their values has there.
-use Rattle.std.proofs.Common.{◌≡◌, ℤ, pos, Bool, true, false, List, [], ◌∷◌, map, refl, sym, ◌∙◌, if◌then◌else◌}
+use Rattle.row_core.proofs.Common.{◌≡◌, ℤ, pos, Bool, true, false, List, [], ◌∷◌, map, refl, sym, ◌∙◌, if◌then◌else◌, is_eq, Ordering, Rational, whole, value_of, Frac, Var, value_at, var_cmp, valued, or_zero, value_in, number_at, ints, arith, InRange, in_range, all_fit, InRange-from_test, all_fit-cons, numbers_of}
 use Rattle.std.specs.Prelude.{Option, Some, None}
-use Rattle.std.specs.Ordering.{is_eq}
-use Rattle.std.specs.declared.cmp.Ordering.{Ordering}
-use Rattle.exact_num.specs.Rational.{Rational, whole}
-use Rattle.exact_num.specs.Value.{value_of}
-use Rattle.exact_num.specs.declared.fraction.Frac.{Frac}
-use Rattle.row_core.specs.declared.Var.{Var}
-use Rattle.row_core.specs.LookUps.{value_at}
-use Rattle.row_core.specs.Order.{var_cmp}
-use Rattle.row_core.specs.Plans.{valued, or_zero, value_in}
-use Rattle.row_core.specs.Rows.{number_at}
-use Rattle.std.proofs.lemmas.Int.{ints}
-use Rattle.std.proofs.Common.{arith}
-use Rattle.exact_num.specs.Range.{InRange, in_range, all_fit}
-use Rattle.exact_num.proofs.RangeLaws.{InRange-from_test}
-use Rattle.exact_num.proofs.StepLaws.{all_fit-cons}
-use Rattle.row_core.specs.Numbers.{numbers_of}
 use Rattle.row_core.proofs.AscendingLaws.{both_passed}
 
 abbrev pub worth : Option Frac → Rational

@@ -1,13 +1,5 @@
 -- Terms that are added for one position after another.
-use Rattle.std.proofs.Common.{◌≡◌, ℕ, suc, ◌+◌, ◌-◌, ◌<◌, ◌≤◌, pos, Bool, true, false, List, [], ◌∷◌, filter, Option, Some, None, refl, sym, ap, ap₂, ◌∙◌, arith}
-use Rattle.std.specs.List.{range_with_len}
-use Rattle.exact_num.specs.Rational.{Rational}
-use Rattle.exact_num.specs.declared.fraction.Frac.{Frac}
-use Rattle.row_core.specs.declared.Var.{Var}
-use Rattle.row_core.specs.Amounts.{Amount, Whole, Total, total_from, total_over}
-use Rattle.row_core.specs.Calculated.{Side, known, number_of, total_of, with_number, with_amounts}
-use Rattle.row_core.specs.EquationTerms.{each}
-use Rattle.row_core.specs.Repeated.{IsTerm, IsTermWhere}
+use Rattle.row_core.proofs.Common.{◌≡◌, ℕ, suc, ◌+◌, ◌-◌, ◌<◌, ◌≤◌, pos, Bool, true, false, List, [], ◌∷◌, filter, Option, Some, None, refl, sym, ap, ap₂, ◌∙◌, arith, range_with_len, Rational, Frac, Var, Amount, Whole, Total, total_from, total_over, Side, known, number_of, total_of, with_number, with_amounts, each, IsTerm, IsTermWhere}
 
 -- a left side with the terms at the chosen positions from i to the end
 abbrev pub with_rest : (ℕ → Bool) → (ℕ → Var × Amount) → ℕ → ℕ → Side → Side
@@ -86,6 +78,3 @@ pub total-step : (f : ℕ → Amount) (n i : ℕ) (sum c : Option Rational) → 
 total-step f n i sum c h is =
     ap (λ k. numbers_from sum (range_with_len i k) f) (one_less n i h)
     ∙ ap (λ x. total_with_rest f n (i + 1) (total_of sum x)) (sym is)
-
-pub total-end : (f : ℕ → Amount) (n i : ℕ) (sum : Option Rational) → n ≤ i → total_with_rest f n i sum ≡ sum
-total-end f n i sum h = ap (λ k. numbers_from sum (range_with_len i k) f) (none_left n i h)

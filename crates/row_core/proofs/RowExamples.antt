@@ -1,13 +1,5 @@
 -- Rows written from their terms, computed: of capacity equations, and of a made model of an energy system with wind power.
-use Rattle.std.proofs.Common.{◌≡◌, ℕ, ◌-◌, ◌^◌, pos, negsuc, true, false, List, [], ◌∷◌, refl}
-use Rattle.exact_num.specs.Formed.{sum_formed}
-use Rattle.exact_num.specs.Gcd.{gcd_of, gcd_within}
-use Rattle.exact_num.specs.Range.{all_fit, in_range}
-use Rattle.exact_num.specs.Rational.{Rational, pair, whole, plus, lowest}
-use Rattle.row_core.specs.declared.Var.{Var}
-use Rattle.row_core.specs.Names.{new_capacity, accumulated_new_capacity, total_capacity_annual}
-use Rattle.row_core.specs.Terms.{gathered, gathered_formed}
-use Rattle.row_core.specs.Written.{kept, common_denominator, written_entries, written_right, written_formed}
+use Rattle.row_core.proofs.Common.{◌≡◌, ℕ, ◌-◌, ◌^◌, pos, negsuc, true, false, List, [], ◌∷◌, refl, sum_formed, gcd_of, gcd_within, all_fit, in_range, Rational, pair, whole, plus, lowest, Var, new_capacity, accumulated_new_capacity, total_capacity_annual, gathered, gathered_formed, kept, common_denominator, written_entries, written_right, written_formed}
 
 -- ---- CAa2 at a residual capacity of a half: TotalCapacityAnnual - AccumulatedNewCapacity = 1/2
 

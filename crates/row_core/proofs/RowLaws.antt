@@ -1,12 +1,5 @@
 -- How the model that a row keeps come about: numbers without a common divisor, and lists that grow at their end.
-use Rattle.std.proofs.Common.{◌≡◌, ℕ, ◌*◌, ◌<◌, ◌≤◌, ℤ, pos, ◌*ℤ◌, Bool, true, false, List, [], ◌∷◌, ◌++◌, ◌&&◌, ◌||◌, not, nat_eq, refl, sym, ap, ◌∙◌, subst, arith}
-use Rattle.std.specs.Prelude.{unsigned_abs}
-use Rattle.std.specs.Int.{◌∣◌}
-use Rattle.std.proofs.lemmas.Nat.Gcd.{le_of_dvd}
-use Rattle.std.proofs.lemmas.Int.{unsigned_abs-mul}
-use Rattle.std.proofs.Math.Nat.{mul-dvd-mul_right, mul-le-mul_right}
-use Rattle.row_core.specs.declared.Var.{Var}
-use Rattle.row_core.specs.Numbers.{variables_of, numbers_of, is_zero, none_zero, in_range, all_in_range, DividesAll, IsLowest}
+use Rattle.row_core.proofs.Common.{◌≡◌, ℕ, ◌*◌, ◌<◌, ◌≤◌, ℤ, pos, ◌*ℤ◌, Bool, true, false, List, [], ◌∷◌, ◌++◌, ◌&&◌, ◌||◌, nat_eq, refl, sym, ap, ◌∙◌, subst, arith, unsigned_abs, ◌∣◌, le_of_dvd, unsigned_abs-mul, mul-dvd-mul_right, mul-le-mul_right, numbers_of, DividesAll, IsLowest}
 
 -- one of the numbers is 1 or -1
 abbrev pub has_unit : List ℤ → Bool
@@ -32,10 +25,6 @@ IsLowest-unit zs unit d above divides =
 
 -- ---- lists joined
 
-pub variables_of-append : (es fs : List (Var × ℤ)) → variables_of (es ++ fs) ≡ variables_of es ++ variables_of fs
-variables_of-append [] fs = refl
-variables_of-append (e ∷ es) fs = ap {B = List Var} (λ vs. e.0 ∷ vs) (variables_of-append es fs)
-
 pub numbers_of-append : {K : Type 0} (es fs : List (K × ℤ)) → numbers_of (es ++ fs) ≡ numbers_of es ++ numbers_of fs
 numbers_of-append [] fs = refl
 numbers_of-append (e ∷ es) fs = ap {B = List ℤ} (λ zs. e.1 ∷ zs) (numbers_of-append es fs)
@@ -43,18 +32,6 @@ numbers_of-append (e ∷ es) fs = ap {B = List ℤ} (λ zs. e.1 ∷ zs) (numbers
 and_assoc : (a b c : Bool) → (a && (b && c)) ≡ ((a && b) && c)
 and_assoc true b c = refl
 and_assoc false b c = refl
-
-pub none_zero-append : (zs ws : List ℤ) → none_zero (zs ++ ws) ≡ (none_zero zs && none_zero ws)
-none_zero-append [] ws = refl
-none_zero-append (z ∷ zs) ws =
-    ap (λ b. not (is_zero z) && b) (none_zero-append zs ws) ∙ and_assoc (not (is_zero z)) (none_zero zs) (none_zero ws)
-
-pub all_in_range-append : (zs ws : List ℤ) → all_in_range (zs ++ ws) ≡ (all_in_range zs && all_in_range ws)
-all_in_range-append [] ws = refl
-all_in_range-append (z ∷ zs) ws =
-    ap (λ b. in_range z && b) (all_in_range-append zs ws) ∙ and_assoc (in_range z) (all_in_range zs) (all_in_range ws)
-
--- ---- division by the common divisor
 
 -- each number times g
 abbrev pub times_all : ℕ → List ℤ → List ℤ

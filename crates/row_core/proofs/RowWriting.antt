@@ -1,16 +1,5 @@
 -- Whether the numbers of a row fit, part by part, and what the row has that comes of them.
-use Rattle.std.proofs.Common.{◌≡◌, pos, Bool, true, false, List, [], ◌∷◌, ◌++◌, ◌&&◌, map, refl, ap, ap₂, ◌∙◌, arith}
-use Rattle.std.specs.Prelude.{◌<ℤ◌}
-use Rattle.std.proofs.lemmas.Int.{ints}
-use Rattle.exact_num.specs.Range.{in_range, all_fit}
-use Rattle.exact_num.specs.Rational.{Rational}
-use Rattle.exact_num.proofs.StepLaws.{all_fit-append, all_fit-cons, all_fit-nil}
-use Rattle.row_core.specs.declared.terms.Term.{Term}
-use Rattle.row_core.specs.declared.Var.{Var}
-use Rattle.row_core.specs.Numbers.{numbers_of, variables_of, ascends, none_zero}
-use Rattle.row_core.specs.Order.{var_cmp}
-use Rattle.row_core.specs.TermViews.{seen}
-use Rattle.row_core.specs.Written.{kept, denominators, widened_by_each, common_denominator, cleared_entries, cleared_right, written_entries, written_divisor, written_formed}
+use Rattle.row_core.proofs.Common.{◌≡◌, pos, Bool, true, false, List, [], ◌∷◌, ◌++◌, ◌&&◌, map, refl, ap, ap₂, ◌∙◌, arith, ◌<ℤ◌, ints, in_range, all_fit, Rational, all_fit-append, all_fit-cons, all_fit-nil, Term, Var, numbers_of, variables_of, ascends, none_zero, var_cmp, seen, kept, denominators, widened_by_each, common_denominator, cleared_entries, cleared_right, written_entries, written_divisor, written_formed}
 use Rattle.row_core.proofs.DivisionLaws.{ArePositive, kept-ArePositive, widened_by_all-is}
 use Rattle.row_core.proofs.WritingSteps.{and_true}
 use Rattle.row_core.proofs.WrittenLaws.{variables_of-over, variables_of-divided, ascends-kept, none_zero-over}

@@ -1,12 +1,7 @@
 -- The rows of one equation among three, computed; and near misses.
-use Rattle.std.proofs.Common.{◌≡◌, true, false, List, [], ◌∷◌, refl, arith}
+use Rattle.row_core.proofs.Common.{◌≡◌, true, false, List, [], ◌∷◌, refl, arith, RowName, Var, accumulated_new_capacity, caa1, caa2, new_capacity, total_capacity_annual, RowContents, AreInOrder, has_kind, rows_of_equation}
 use Rattle.std.specs.Prelude.{ℤ, pos, negsuc}
-use Rattle.row_core.specs.declared.RowName.{RowName}
 use Rattle.row_core.specs.declared.Sense.TheVariants.{Equal}
-use Rattle.row_core.specs.declared.Var.{Var}
-use Rattle.row_core.specs.Names.{accumulated_new_capacity, caa1, caa2, new_capacity, total_capacity_annual}
-use Rattle.row_core.specs.Contents.{RowContents}
-use Rattle.row_core.specs.Sources.{AreInOrder, has_kind, rows_of_equation}
 
 abbrev says : RowName → List (Var × ℤ) → RowContents
 says name entries = record { name = name; sense = Equal; entries = entries; rhs = pos 0 }

@@ -1,11 +1,6 @@
 -- The test whether a statement is true answers what the statement says.
-use Rattle.std.proofs.Common.{◌≡◌, true, arith, ℤ}
-use Rattle.std.proofs.lemmas.Int.{ints}
-use Rattle.std.proofs.lemmas.Bool.Decides.{Decides-int_eq}
-use Rattle.std.specs.Prelude.{◌≤ℤ◌, int_le}
-use Rattle.row_core.specs.declared.Sense.{Sense}
+use Rattle.row_core.proofs.Common.{◌≡◌, true, arith, ℤ, ints, Decides-int_eq, ◌≤ℤ◌, int_le, Sense, Statement, Stands, stands, Holds, holds}
 use Rattle.row_core.specs.declared.Sense.TheVariants.{Least, Equal, Most}
-use Rattle.row_core.specs.Statements.{Statement, Stands, stands, Holds, holds}
 
 le_from_test : (a b : ℤ) → int_le a b ≡ true → a ≤ℤ b
 le_from_test a b h = grind (arith, ints)
@@ -26,7 +21,3 @@ stands_complete Most left right h = le_to_test left right h
 -- a statement that passes the test is true
 pub holds_sound : (s : Statement) → holds s ≡ true → Holds s
 holds_sound s h = stands_sound s.sign s.left s.right h
-
--- a true statement passes the test
-pub holds_complete : (s : Statement) → Holds s → holds s ≡ true
-holds_complete s h = stands_complete s.sign s.left s.right h

@@ -1,17 +1,5 @@
 -- Sums of terms over one denominator and over another, and how they go with gathering.
-use Rattle.std.proofs.Common.{◌≡◌, ℤ, pos, negsuc, neg_ℤ, ◌+ℤ◌, ◌*ℤ◌, List, [], ◌∷◌, ◌++◌, map, refl, sym, ap, ap₂, ◌∙◌, subst, arith}
-use Rattle.std.specs.Prelude.{◌<ℤ◌}
-use Rattle.std.specs.declared.cmp.Ordering.{Ordering}
-use Rattle.std.specs.declared.cmp.Ordering.TheVariants.{Less, Equal, Greater}
-use Rattle.std.proofs.lemmas.Int.{ints}
-use Rattle.exact_num.proofs.Integers.{*ℤ_cancel, nonzero_of_pos, *ℤ_pos}
-use Rattle.exact_num.proofs.RationalLaws.{lowest-cross, lowest-IsLowest}
-use Rattle.exact_num.proofs.Ring.{ring, products, zero-*ℤ, zero-+ℤ, +ℤ-zero, *ℤ-one, one-*ℤ, *ℤ_assoc, *ℤ_left_comm, +ℤ_assoc, +ℤ_left_comm, neg_ℤ-*ℤ}
-use Rattle.exact_num.specs.Rational.{Rational, plus, times, negated, whole, lowest}
-use Rattle.row_core.specs.declared.Var.{Var}
-use Rattle.row_core.specs.Order.{var_cmp}
-use Rattle.row_core.specs.Terms.{with_term, gathered_onto, gathered}
-use Rattle.row_core.specs.Values.{IsOver, IsSumOver}
+use Rattle.row_core.proofs.Common.{◌≡◌, ℤ, pos, neg_ℤ, ◌+ℤ◌, ◌*ℤ◌, List, [], ◌∷◌, ◌++◌, refl, sym, ap, ap₂, ◌∙◌, subst, arith, ◌<ℤ◌, Ordering, Less, Equal, Greater, ints, *ℤ_cancel, nonzero_of_pos, *ℤ_pos, lowest-cross, lowest-IsLowest, ring, products, zero-*ℤ, zero-+ℤ, +ℤ-zero, *ℤ-one, one-*ℤ, *ℤ_assoc, *ℤ_left_comm, +ℤ_left_comm, neg_ℤ-*ℤ, Rational, plus, times, negated, whole, lowest, Var, var_cmp, with_term, gathered_onto, gathered, IsOver, IsSumOver}
 use Rattle.row_core.proofs.Orders.{var_cmp_exact}
 
 swap_last : (a b c : ℤ) → (a *ℤ b) *ℤ c ≡ (a *ℤ c) *ℤ b
@@ -143,26 +131,6 @@ IsSumOver-gathered s x written n p = subst (IsSumOver s x (gathered written)) (+
 pub IsOver-one : (s : ℤ) → IsOver s (whole (pos 1)) s
 IsOver-one s = record { positive = one_positive; cross = *ℤ-one s ∙ sym (one-*ℤ s) }
 
-pub IsOver-minus_one : (s : ℤ) → IsOver s (whole (negsuc 0)) (neg_ℤ s)
-IsOver-minus_one s = IsOver-negated s (whole (pos 1)) s (IsOver-one s)
-
 -- nothing on the right side
 pub IsOver-zero : (s : ℤ) → IsOver s (whole (pos 0)) (pos 0)
 IsOver-zero s = record { positive = one_positive; cross = zero-*ℤ (pos 1) ∙ sym (zero-*ℤ s) }
-
--- one term before others
-pub IsSumOver-cons : (s : ℤ) (x : Var → ℤ) (term : Var × Rational) (terms : List (Var × Rational)) (z n : ℤ) → IsOver s term.1 z → IsSumOver s x terms n → IsSumOver s x (term ∷ terms) ((z *ℤ x term.0) +ℤ n)
-IsSumOver-cons s x term terms z n over sum = (z, n, over, sum, refl)
-
--- terms followed by others
-pub IsSumOver-append : (s : ℤ) (x : Var → ℤ) (terms more : List (Var × Rational)) (n m : ℤ) → IsSumOver s x terms n → IsSumOver s x more m → IsSumOver s x (terms ++ more) (n +ℤ m)
-IsSumOver-append s x [] more n m p q = subst (IsSumOver s x more) (sym (ap (λ y. y +ℤ m) p ∙ zero-+ℤ m)) q
-IsSumOver-append s x (term ∷ terms) more n m (z, rest, over, sum, is) q =
-    (z, rest +ℤ m, over, IsSumOver-append s x terms more rest m sum q, ap (λ y. y +ℤ m) is ∙ +ℤ_assoc (z *ℤ x term.0) rest m)
-
--- a term for each of a list, whatever word for their sum an equation has
-pub IsSumOver-each : {A : Type 0} (s : ℤ) (x : Var → ℤ) (f : A → Var × Rational) (z : A → ℤ) (total : List A → ℤ)
-    → ((i : A) → IsOver s (f i).1 (z i)) → total [] ≡ pos 0 → ((i : A) (is : List A) → total (i ∷ is) ≡ (z i *ℤ x (f i).0) +ℤ total is)
-    → (is : List A) → IsSumOver s x (map f is) (total is)
-IsSumOver-each s x f z total over none more [] = none
-IsSumOver-each s x f z total over none more (i ∷ is) = (z i, total is, over i, IsSumOver-each s x f z total over none more is, more i is)

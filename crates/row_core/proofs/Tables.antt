@@ -1,6 +1,5 @@
 -- Reading a table that describes another one.
-use Rattle.std.proofs.Common.{◌≡◌, ℕ, ◌<◌, List, length, map, get_or, sym, ap, ◌∙◌, subst}
-use Rattle.std.proofs.lemmas.List.{get_or-map, length-map}
+use Rattle.row_core.proofs.Common.{◌≡◌, ℕ, ◌<◌, List, length, map, get_or, sym, ap, ◌∙◌, subst, get_or-map, length-map}
 
 -- the entry at a place of the one describes the entry there of the other
 pub described_entry : {A B : Type 0} (f : A → B) (xs : List A) (ys : List B) (i : ℕ) (d : A) (e : B) → map f xs ≡ ys → i < length ys → f (get_or xs i d) ≡ get_or ys i e

@@ -1,23 +1,8 @@
 -- What one more term does to a list of terms: the list goes on ascending, and where the term goes.
-use Rattle.std.proofs.Common.{◌≡◌, ◌≢◌, ℕ, zero, suc, ◌<◌, ◌≤◌, ℤ, true, List, [], ◌∷◌, ◌++◌, length, map, get_or, set, refl, sym, ap, ◌∙◌, subst, arith, append_assoc, inl, inr}
-use Rattle.std.specs.List.{insert}
-use Rattle.std.specs.Cmp.Derive.{both_true}
-use Rattle.std.specs.Ordering.{ordering_reverse}
-use Rattle.std.specs.declared.cmp.Ordering.{Ordering}
-use Rattle.std.specs.declared.cmp.Ordering.TheVariants.{Less, Equal, Greater}
-use Rattle.std.proofs.Math.Nat.{eq-or-lt_of_le}
-use Rattle.exact_num.specs.Formed.{sum_formed}
-use Rattle.exact_num.specs.Rational.{Rational, plus}
-use Rattle.exact_num.specs.Value.{value_of}
-use Rattle.row_core.specs.declared.terms.Term.{Term}
-use Rattle.row_core.specs.declared.Var.{Var}
-use Rattle.row_core.specs.Numbers.{variables_of, before_first, ascends}
-use Rattle.row_core.specs.Order.{var_cmp}
-use Rattle.row_core.specs.TermPlaces.{AreBefore, IsThere, BelongsAt}
-use Rattle.row_core.specs.Terms.{with_term, term_formed, gathered_onto, gathered, gathered_formed_onto}
-use Rattle.row_core.specs.TermViews.{seen}
+use Rattle.row_core.proofs.Common.{◌≡◌, ◌≢◌, ℕ, zero, suc, ◌<◌, ◌≤◌, ℤ, true, List, [], ◌∷◌, ◌++◌, length, map, get_or, set, refl, sym, ap, ◌∙◌, subst, arith, inl, inr, insert, both_true, ordering_reverse, Ordering, Less, Equal, Greater, eq-or-lt_of_le, sum_formed, Rational, plus, value_of, Term, Var, variables_of, before_first, ascends, var_cmp, AreBefore, IsThere, BelongsAt, seen}
+use Rattle.row_core.specs.Terms.{with_term, term_formed}
 use Rattle.row_core.proofs.AscendingLaws.{both_passed, test-from_Less, ascends-AllPairs}
-use Rattle.row_core.proofs.Orders.{var_cmp_total, var_cmp_exact}
+use Rattle.row_core.proofs.Orders.{var_cmp_total}
 
 -- ---- one more term by the order of the variables
 
@@ -107,27 +92,6 @@ ascends-with_term new (term ∷ terms) h =
 
 -- ---- terms taken one after another
 
-pub ascends-gathered_onto : (terms more : List (Var × Rational)) → ascends var_cmp (variables_of terms) ≡ true → ascends var_cmp (variables_of (gathered_onto terms more)) ≡ true
-ascends-gathered_onto terms [] h = h
-ascends-gathered_onto terms (new ∷ more) h = ascends-gathered_onto (with_term new terms) more (ascends-with_term new terms h)
-
--- gathered terms ascend
-pub ascends-gathered : (written : List (Var × Rational)) → ascends var_cmp (variables_of (gathered written)) ≡ true
-ascends-gathered written = ascends-gathered_onto [] written refl
-
--- two lists of terms after one another
-pub gathered_onto-append : (terms more rest : List (Var × Rational)) → gathered_onto terms (more ++ rest) ≡ gathered_onto (gathered_onto terms more) rest
-gathered_onto-append terms [] rest = refl
-gathered_onto-append terms (new ∷ more) rest = gathered_onto-append (with_term new terms) more rest
-
-pub gathered_formed_onto-append : (terms more rest : List (Var × Rational)) → gathered_formed_onto terms (more ++ rest) ≡ gathered_formed_onto terms more ++ gathered_formed_onto (gathered_onto terms more) rest
-gathered_formed_onto-append terms [] rest = refl
-gathered_formed_onto-append terms (new ∷ more) rest =
-    ap (λ zs. term_formed new terms ++ zs) (gathered_formed_onto-append (with_term new terms) more rest)
-    ∙ sym (append_assoc (term_formed new terms) (gathered_formed_onto (with_term new terms) more) (gathered_formed_onto (gathered_onto (with_term new terms) more) rest))
-
--- ---- what comes before the end
-
 variables_at : (terms : List Term) (k : ℕ) (d : Term) → get_or (variables_of (map seen terms)) k d.variable ≡ (get_or terms k d).variable
 variables_at [] k d = refl
 variables_at (term ∷ terms) zero d = refl
@@ -159,9 +123,3 @@ AreBefore-last terms v last up within less k d h =
     let itself : k ≡ last → var_cmp x v ≡ Less = λ e. subst (λ n. var_cmp (get_or terms n d).variable v ≡ Less) (sym e) (less d) in
     let within_last : k ≤ last = omega arith in
     elim (eq-or-lt_of_le within_last) [ inl e ↦ itself e | inr below ↦ earlier below ]
-
--- what is not after, and not the same, is before
-pub before-from_others : (v w : Var) → var_cmp v w ≢ Greater → v ≢ w → var_cmp v w ≡ Less
-before-from_others v w following same =
-    let cases : (o : Ordering) → var_cmp v w ≡ o → o ≡ Less = λ o. elim o as (λ p. var_cmp v w ≡ p → p ≡ Less) [ Less ↦ λ e. refl | Equal ↦ λ e. absurd (same (var_cmp_exact v w e)) | Greater ↦ λ e. absurd (following e) ] in
-    cases (var_cmp v w) refl

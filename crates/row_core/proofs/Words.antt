@@ -1,12 +1,6 @@
 -- The words of kinds and of equations tell them apart, and have no bracket and no comma.
-use Rattle.std.proofs.Common.{◌≡◌, ℕ, ◌-◌, ◌<◌, List, [], Bool, true, length, map, get_or, refl, sym, ap, ◌∙◌, arith, nat_eq, replicate, zero-add}
-use Rattle.std.proofs.lemmas.List.{get_or-map, get_or-replicate}
+use Rattle.row_core.proofs.Common.{◌≡◌, ℕ, ◌-◌, ◌<◌, List, [], Bool, true, length, map, get_or, refl, sym, ap, ◌∙◌, arith, nat_eq, replicate, zero-add, get_or-map, get_or-replicate, range_with_len, position_or_len, pointwise, IsPlain, is_plain, IsKind, Kind, kinds, no_kind, word_of_kind, IsEquation, Equation, equations, no_equation, word_of_equation}
 use Rattle.std.proofs.lemmas.List.FromFn.{get_or-range_with_len}
-use Rattle.std.specs.List.{range_with_len, position_or_len}
-use lib.Pointwise.{pointwise}
-use Rattle.row_core.specs.Words.{IsPlain, is_plain}
-use Rattle.row_core.specs.Kinds.{IsKind, Kind, kinds, no_kind, word_of_kind}
-use Rattle.row_core.specs.Equations.{IsEquation, Equation, equations, no_equation, word_of_equation}
 
 -- the place of the first word that is this one
 abbrev place_of : List (List ℕ) → List ℕ → ℕ

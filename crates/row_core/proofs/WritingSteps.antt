@@ -1,27 +1,7 @@
 -- The steps of writing a row over the list of terms that the code keeps.
-use Rattle.std.proofs.Common.{◌≡◌, ◌≢◌, ℕ, zero, suc, ◌+◌, ◌<◌, ◌≤◌, ℤ, pos, Bool, true, false, List, [], ◌∷◌, ◌++◌, ◌&&◌, length, map, get_or, set, take, drop, add-one, arith, refl, sym, ap, ◌∙◌, subst, if◌then◌else◌}
-use Rattle.std.specs.Prelude.{int_div, unsigned_abs, ◌≤ℤ◌, ◌==◌}
-use Rattle.std.proofs.lemmas.Int.{ints}
-use Rattle.std.proofs.lemmas.Bool.Decides.{nat_tests}
-use Rattle.std.specs.Int.{◌∣◌}
-use Rattle.std.proofs.lemmas.Nat.Gcd.{dvd_antisymm, dvd_trans}
-use Rattle.std.proofs.lemmas.List.{drop_more, at_drop_all}
-use Rattle.exact_num.specs.Range.{InRange, in_range, all_fit}
-use Rattle.exact_num.specs.Rational.{Rational}
-use Rattle.exact_num.specs.Gcd.{gcd_of}
-use Rattle.exact_num.proofs.GcdLaws.{gcd_of-zero, gcd_of-dvd_left, gcd_of-dvd_right, dvd-gcd_of}
-use Rattle.exact_num.proofs.RangeLaws.{InRange-from_test}
-use Rattle.exact_num.proofs.StepLaws.{all_fit-append, all_fit-cons, all_fit-nil}
-use Rattle.row_core.specs.declared.terms.Term.{Term}
-use Rattle.row_core.specs.declared.Var.{Var}
-use Rattle.row_core.specs.Numbers.{is_zero, numbers_of}
+use Rattle.row_core.proofs.Common.{◌≡◌, ◌≢◌, ℕ, zero, suc, ◌+◌, ◌<◌, ◌≤◌, ℤ, pos, Bool, true, false, List, [], ◌∷◌, ◌++◌, ◌&&◌, length, map, get_or, set, take, drop, add-one, arith, refl, sym, ap, ◌∙◌, subst, if◌then◌else◌, int_div, unsigned_abs, ◌≤ℤ◌, ◌==◌, ints, nat_tests, ◌∣◌, dvd_antisymm, dvd_trans, drop_more, at_drop_all, InRange, in_range, all_fit, Rational, gcd_of, gcd_of-zero, gcd_of-dvd_left, gcd_of-dvd_right, dvd-gcd_of, InRange-from_test, all_fit-append, all_fit-cons, all_fit-nil, Term, Var, is_zero, numbers_of, Stopped, IsStop, widened_by_term, entry_over, seen, kept, denominators, widened, widened_by_each, widened_by_all, numerator_over, entries_over, entries_divided, common_divisor, row_divisor}
 use Rattle.row_core.specs.declared.place.Place.{Place}
-use Rattle.row_core.specs.declared.place.Stopped.{Stopped}
 use Rattle.row_core.specs.declared.place.Stopped.TheVariants.{Width, Memory}
-use Rattle.row_core.specs.Stops.{IsStop}
-use Rattle.row_core.specs.TermSteps.{widened_by_term, entry_over}
-use Rattle.row_core.specs.TermViews.{seen}
-use Rattle.row_core.specs.Written.{kept, denominators, widened, widened_by_each, widened_by_all, numerator_over, entries_over, entries_divided, common_divisor, row_divisor}
 use Rattle.row_core.proofs.AscendingLaws.{both_passed}
 use Rattle.row_core.proofs.DivisionLaws.{widened_by_all-term, widened_by_each-term, nonzero-test}
 use Rattle.row_core.proofs.RowLaws.{numbers_of-append}

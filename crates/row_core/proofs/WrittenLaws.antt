@@ -1,23 +1,9 @@
 -- What a written row keeps: ascending variables, no 0, numbers in range and without a common divisor; and that it is the terms and the right side times a positive number.
-use Rattle.std.proofs.Common.{◌≡◌, ◌≢◌, ℕ, ◌^◌, ◌<◌, ◌≤◌, ℤ, pos, ◌+ℤ◌, ◌*ℤ◌, Bool, true, false, List, [], ◌∷◌, not, refl, sym, ap, ap₂, ◌∙◌, subst, arith, if◌then◌else◌}
-use Rattle.std.specs.Prelude.{unsigned_abs, int_div, ◌<ℤ◌, ◌==◌, ⊤}
-use Rattle.std.specs.Cmp.Derive.{both_true}
-use Rattle.std.specs.Int.{◌∣◌}
-use Rattle.std.specs.Ordering.{is_lt}
+use Rattle.row_core.proofs.Common.{◌≡◌, ◌≢◌, ℕ, ◌^◌, ◌<◌, ◌≤◌, ℤ, pos, ◌+ℤ◌, ◌*ℤ◌, Bool, true, false, List, [], ◌∷◌, not, refl, sym, ap, ap₂, ◌∙◌, subst, arith, if◌then◌else◌, unsigned_abs, int_div, ◌<ℤ◌, ◌==◌, ⊤, both_true, ◌∣◌, is_lt, eq-zero_of_zero-dvd, one-dvd, Rational, int_div-mul, unsigned_abs-int_div, *ℤ_nonzero, nonzero_of_pos, unsigned_abs-zero, InRange-le, InRange-from_test, all_fit-cons, products, zero-*ℤ, +ℤ-*ℤ, *ℤ-one, Var, var_cmp, row_sum, kept, common_divisor, row_divisor, numerator_over, entries_over, entries_divided}
 use Rattle.std.proofs.lemmas.Bool.{eqb-true, eqb-false}
 use borrow.Author.Tests.{lt-ltb}
-use Rattle.std.proofs.Math.Nat.{eq-zero_of_zero-dvd, one-dvd}
 use Rattle.exact_num.specs.Range.{InRange, all_fit, in_range as fits}
-use Rattle.exact_num.specs.Rational.{Rational}
-use Rattle.exact_num.proofs.Integers.{int_div-mul, unsigned_abs-int_div, *ℤ_nonzero, nonzero_of_pos, unsigned_abs-zero}
-use Rattle.exact_num.proofs.RangeLaws.{InRange-le, InRange-from_test}
-use Rattle.exact_num.proofs.StepLaws.{all_fit-cons}
-use Rattle.exact_num.proofs.Ring.{products, zero-*ℤ, +ℤ-*ℤ, *ℤ-one}
-use Rattle.row_core.specs.declared.Var.{Var}
 use Rattle.row_core.specs.Numbers.{is_zero, all_zero, none_zero, in_range, all_in_range, numbers_of, variables_of, before_first, ascends, DividesAll, IsLowest}
-use Rattle.row_core.specs.Order.{var_cmp}
-use Rattle.row_core.specs.Rows.{row_sum}
-use Rattle.row_core.specs.Written.{kept, common_divisor, row_divisor, numerator_over, entries_over, entries_divided}
 use Rattle.row_core.proofs.AscendingLaws.{both_passed, ascends-skip}
 use Rattle.row_core.proofs.DivisionLaws.{IsPartOf, ArePartsOf, exact_quotient, factor_pos, nonzero-test, common_divisor-DividesAll, common_divisor-greatest}
 use Rattle.row_core.proofs.Orders.{var_cmp_total}
@@ -178,9 +164,6 @@ all_in_range-divided g (z ∷ zs) h =
     both_true (divided_in_range g z (InRange-from_test z parts.0)) (all_in_range-divided g zs parts.1)
 
 -- ---- the numbers of the divided row
-
-pub numbers_of-reduced : {K : Type 0} (right : ℤ) (es : List (K × ℤ)) (g : ℕ) → int_div right (pos g) ∷ numbers_of (entries_divided g es) ≡ numbers_divided g (right ∷ numbers_of es)
-numbers_of-reduced right es g = ap {B = List ℤ} (λ zs. int_div right (pos g) ∷ zs) (numbers_of-divided g es)
 
 -- a division by 1 changes nothing
 pub entries_divided-one : {K : Type 0} (es : List (K × ℤ)) → entries_divided 1 es ≡ es

@@ -72,11 +72,6 @@ AreDigits-tail c cs h = and_right (is_ascii_digit c) (all_ascii_digits cs) h
 pub AreDigits-cons : (c : ℕ) (cs : List ℕ) → is_ascii_digit c ≡ true → AreDigits cs → AreDigits (c ∷ cs)
 AreDigits-cons c cs h k = and_both (is_ascii_digit c) (all_ascii_digits cs) h k
 
-pub AreDigits-append : (xs ys : List ℕ) → AreDigits xs → AreDigits ys → AreDigits (xs ++ ys)
-AreDigits-append [] ys h k = k
-AreDigits-append (x ∷ xs) ys h k =
-    AreDigits-cons x (xs ++ ys) (AreDigits-head x xs h) (AreDigits-append xs ys (AreDigits-tail x xs h) k)
-
 -- a digit's byte
 pub digit_range : (c : ℕ) → is_ascii_digit c ≡ true → (48 ≤ c) × (c ≤ 57)
 digit_range c h = grind (arith, nat_tests)
@@ -103,14 +98,6 @@ AreDigits-take-if c cs false n e h = refl
 pub AreDigits-front : (text : List ℕ) → AreDigits (digits_in_front text)
 AreDigits-front [] = refl
 AreDigits-front (c ∷ cs) = AreDigits-take-if c cs (is_ascii_digit c) (prefix_len is_ascii_digit cs) refl (AreDigits-front cs)
-
-no-digit-if : (c : ℕ) (cs : List ℕ) (b : Bool) (n : ℕ) → is_ascii_digit c ≡ b → prefix_len is_ascii_digit (drop n cs) ≡ 0 → prefix_len is_ascii_digit (drop (cond b (1 + n) 0) (c ∷ cs)) ≡ 0
-no-digit-if c cs true n e h = rw (one-add n) h
-no-digit-if c cs false n e h = rw e refl
-
-pub no-digit-after : (text : List ℕ) → prefix_len is_ascii_digit (after_digits text) ≡ 0
-no-digit-after [] = refl
-no-digit-after (c ∷ cs) = no-digit-if c cs (is_ascii_digit c) (prefix_len is_ascii_digit cs) refl (no-digit-after cs)
 
 -- digits and nothing else are as long as the longest run in front
 pub AreDigits-from_length : (text : List ℕ) → prefix_len is_ascii_digit text ≡ length text → AreDigits text

@@ -15,13 +15,6 @@ IsHead-whole h m e is =
     let digits = is.digits in
     omega arith
 
-pub IsHead-kept : (h g : Head) (m d : ℕ) → h.dropped ≡ 0 → g.value ≡ h.value * 10 + d → g.dropped ≡ 0 → g.rest ≡ false → IsHead h m → IsHead g (m * 10 + d)
-IsHead-kept h g m d none value dropped rest is =
-    let whole = IsHead-whole h m none is in
-    let one : 10 ^ g.dropped ≡ 1 = ap (λ k. 10 ^ k) dropped in
-    let more : g.value * 10 ^ g.dropped ≡ g.value * 1 = ap (λ k. g.value * k) one in
-    record { tail = 0; digits = omega arith; short = omega arith; rest = rest; full = λ some. absurd (omega arith) }
-
 not-zero-more : (r : Bool) (t d : ℕ) → r ≡ not (eqb t 0) → (r || not (eqb d 0)) ≡ not (eqb (t * 10 + d) 0)
 not-zero-more r t d e = grind (arith, nat_tests)
 

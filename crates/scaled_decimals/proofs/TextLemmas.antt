@@ -1,5 +1,5 @@
 -- Texts and their parts: a text is made of what its readers find, and what spells a text is what they find.
-use Rattle.scaled_decimals.proofs.Common.{◌≡◌, ℕ, ◌+◌, ◌<◌, List, [], ◌∷◌, ◌++◌, length, drop, true, false, Bool, cond, eqb, Option, Some, None, sym, refl, ap, ap₂, ◌∙◌, arith, subst, ◌||◌, slice_index, is_ascii_digit, prefix_len, eqb-true, nat_tests, take-append-drop, drop-length, AreDigits, IsNumeral, Sign, Bare, Plus, Minus, Exponent, NumberText, IsExponent, Spells, sign_bytes, mark, fraction_bytes, exponent_bytes, fraction_digits, is_minus, digits_in_front, after_digits, IsPower}
+use Rattle.scaled_decimals.proofs.Common.{◌≡◌, ℕ, ◌+◌, ◌<◌, List, [], ◌∷◌, ◌++◌, length, drop, true, false, Bool, cond, eqb, Option, Some, None, sym, refl, ap, ap₂, ◌∙◌, arith, ◌||◌, slice_index, is_ascii_digit, prefix_len, eqb-true, nat_tests, take-append-drop, drop-length, AreDigits, IsNumeral, Sign, Bare, Plus, Minus, Exponent, NumberText, IsExponent, Spells, sign_bytes, mark, fraction_bytes, exponent_bytes, fraction_digits, is_minus, digits_in_front, after_digits, IsPower}
 use Rattle.scaled_decimals.proofs.DigitLemmas.{AreDigits-head, digit_range, digits_in_front-append, after_digits-append, AreDigits-front}
 
 -- ---- signs
@@ -42,11 +42,6 @@ pub after_sign-of : (s : Sign) (text : List ℕ) → IsUnsigned text → after_s
 after_sign-of Bare text is = ap₂ (λ m p. cond (m || p) (drop 1 text) text) is.minus is.plus
 after_sign-of Plus text is = refl
 after_sign-of Minus text is = refl
-
-pub minus-of : (s : Sign) (text : List ℕ) → IsUnsigned text → eqb (slice_index (sign_bytes s ++ text) 0) 45 ≡ is_minus s
-minus-of Bare text is = is.minus
-minus-of Plus text is = refl
-minus-of Minus text is = refl
 
 pub sign_of-bytes : (s : Sign) (text : List ℕ) → IsUnsigned text → sign_of (sign_bytes s ++ text) ≡ s
 sign_of-bytes Bare text is = ap₂ sign_by is.minus is.plus
@@ -236,11 +231,6 @@ one_way text p q is are =
     let same : p.exponent ≡ q.exponent = one_exponent p.exponent q.exponent is.formed.power are.formed.power (sym left.end ∙ right.end) in
     sym (number_at-is p text is) ∙ ap (λ e. number_at text e) same ∙ number_at-is q text are
 
--- ---- a power of ten
-pub IsPower-none : (text : List ℕ) → length text ≡ 0 → (e : Option Exponent) × IsPower text false text e
-IsPower-none [] h = (None, record { formed = tt; bytes = refl; sign = refl; all = refl })
-IsPower-none (c ∷ cs) h = absurd (omega arith)
-
 pub IsPower-some : (text following : List ℕ) (capital : Bool) (lowering : Bool) (digits : List ℕ) → text ≡ mark capital ∷ following → lowering ≡ eqb (slice_index following 0) 45 → digits ≡ after_sign following → IsNumeral digits → (e : Option Exponent) × IsPower text lowering digits e
 IsPower-some text following capital lowering digits is minus rest numeral = (
   Some (record { capital = capital; sign = sign_of following; digits = digits }),
@@ -251,13 +241,3 @@ IsPower-some text following capital lowering digits is minus rest numeral = (
     all = refl;
   },
 )
-
-pub not-IsPower : (text : List ℕ) → (0 < length text) → ((capital : Bool) (rest : List ℕ) → text ≡ mark capital ∷ rest → ⊥) → (e : Option Exponent) → IsExponent e → text ≡ exponent_bytes e → ⊥
-not-IsPower text some none None is bytes = let e : length text ≡ 0 = ap length bytes in absurd (omega arith)
-not-IsPower text some none (Some e) is bytes = none e.capital (sign_bytes e.sign ++ e.digits) bytes
-
-pub not-numeral : (text following : List ℕ) (capital : Bool) → text ≡ mark capital ∷ following → (IsNumeral (after_sign following) → ⊥) → (e : Option Exponent) → IsExponent e → text ≡ exponent_bytes e → ⊥
-not-numeral text following capital is none None formed bytes = let no : mark capital ∷ following ≡ [] = sym is ∙ bytes in cc
-not-numeral text following capital is none (Some e) formed bytes =
-    let parts = mark-parts capital e.capital following (sign_bytes e.sign ++ e.digits) (sym is ∙ bytes) in
-    none (subst IsNumeral (sym (ap after_sign parts.1 ∙ after_sign-of e.sign e.digits (IsUnsigned-numeral e.digits formed))) formed)

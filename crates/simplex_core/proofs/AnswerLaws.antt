@@ -1,24 +1,10 @@
 -- The method's answer, round by round over kept tableaus: this is all that the loop of the code needs.
-use Rattle.std.proofs.Common.{◌≡◌, ◌≢◌, ℕ, suc, ◌+◌, ◌<◌, ℤ, pos, Bool, true, false, Option, Some, None, List, [], ◌∷◌, length, get_or, set, map, arith, refl, sym, ap, ◌∙◌, subst, if◌then◌else◌, ◌⊎◌, inl, inr}
-use Rattle.std.specs.Prelude.{◌<ℤ◌, ◌≤ℤ◌, int_lt, nat_lt}
-use Rattle.std.proofs.lemmas.Int.{ints}
-use Rattle.std.proofs.lemmas.List.{get_or-set_same, get_or-set_other, get_or-map}
-use Rattle.std.proofs.Math.ListN.{length-set}
-use Rattle.exact_num.specs.Range.{all_fit}
-use Rattle.written_method.specs.Lines.{Line, entry_of, cleared}
-use Rattle.written_method.specs.Tableaus.{line_of, rows_of, no_line}
-use Rattle.written_method.specs.Choices.{Candidate, greatest_from, first_positive_from}
-use Rattle.written_method.specs.Rounds.{Due, Pivot, NoColumn, NoRow, step_of}
-use Rattle.written_method.specs.Runs.{Infeasible, PivotDue, Ended, answer}
-use Rattle.written_method.proofs.LeavingLaws.{IsLeast, leaving-IsLeast}
-use Rattle.written_method.proofs.RunLaws.{answer-pivot, answer-no_column, answer-due}
-use Rattle.simplex_core.specs.KeptRounds.{KeptState, shown_state, home_line, rough_line, rough_lines, kept_entering, kept_leaving, kept_due, next_kept, left_kept}
+use Rattle.simplex_core.proofs.Common.{◌≡◌, ◌≢◌, ℕ, suc, ◌+◌, ◌<◌, ℤ, pos, Bool, true, false, Option, Some, None, List, [], ◌∷◌, length, get_or, set, map, arith, refl, sym, ap, ◌∙◌, subst, if◌then◌else◌, ◌⊎◌, inl, inr, ◌<ℤ◌, ◌≤ℤ◌, int_lt, nat_lt, ints, get_or-set_same, get_or-set_other, get_or-map, length-set, all_fit, Line, entry_of, cleared, line_of, rows_of, no_line, Candidate, greatest_from, first_positive_from, Due, Pivot, NoColumn, NoRow, step_of, Infeasible, PivotDue, Ended, answer, IsLeast, leaving-IsLeast, answer-pivot, answer-no_column, answer-due, KeptState, shown_state, home_line, rough_line, rough_lines, kept_entering, kept_leaving, kept_due, next_kept, left_kept, zero-*ℤ}
 use Rattle.simplex_core.proofs.PrimitiveLaws.{AreProportional}
 use Rattle.simplex_core.proofs.KeptLaws.{IsChosen}
 use Rattle.simplex_core.proofs.KeepingLaws.{IsKept-exchanged}
 use Rattle.simplex_core.proofs.ScaledChoiceLaws.{lt_fact, less_scaled}
 use Rattle.simplex_core.proofs.StateLaws.{IsKeptState, in_lines, rough-AreProportional, due-kept, after-kept, after-left}
-use Rattle.exact_num.proofs.Ring.{zero-*ℤ}
 
 -- ---- what a choice shows
 

@@ -1,14 +1,5 @@
 -- The choices: entries of 0 are passed over, and one row comes after another.
-use Rattle.std.proofs.Common.{◌≡◌, ℕ, zero, suc, ◌+◌, ◌-◌, ◌<◌, ◌≤◌, ℤ, pos, Bool, true, false, List, Option, Some, None, length, get_or, drop, refl, sym, ap, ap₂, ◌∙◌, subst, arith, add-one, inl, inr, if◌then◌else◌}
-use Rattle.std.specs.Prelude.{int_lt, ◌≤ℤ◌}
-use Rattle.std.proofs.lemmas.Bool.{cases_lt}
-use Rattle.std.proofs.lemmas.Int.{ints}
-use Rattle.std.proofs.lemmas.List.{drop_more, at_drop_all}
-use Rattle.written_method.specs.Choices.{greatest_from, first_positive_from, least_right_from, Candidate, better, candidate_at, leaving_from}
-use Rattle.written_method.specs.Lines.{Line, entry_of}
-use Rattle.written_method.specs.Rounds.{right_sides}
-use Rattle.written_method.specs.Tableaus.{Tableau, line_of, no_line, rows_of}
-use Rattle.written_method.proofs.BegunLaws.{length-right_sides, right_sides-at}
+use Rattle.simplex_core.proofs.Common.{◌≡◌, ℕ, zero, suc, ◌+◌, ◌-◌, ◌<◌, ◌≤◌, ℤ, pos, Bool, true, false, List, Option, Some, None, length, get_or, drop, refl, sym, ap, ap₂, ◌∙◌, subst, arith, add-one, inl, inr, if◌then◌else◌, int_lt, ◌≤ℤ◌, cases_lt, ints, drop_more, at_drop_all, greatest_from, first_positive_from, least_right_from, Candidate, better, candidate_at, leaving_from, Line, entry_of, right_sides, Tableau, line_of, no_line, rows_of, length-right_sides, right_sides-at}
 
 -- the entries in some columns are 0
 abbrev pub AreZeros : List ℤ → ℕ → ℕ → Type 0

@@ -1,14 +1,5 @@
 -- A line cleared in two columns: by x0's row and then by the method's pivot row, or by the rows of the kept tableau.
-use Rattle.std.proofs.Common.{◌≡◌, ℕ, zero, suc, ℤ, pos, ◌+ℤ◌, ◌-ℤ◌, ◌*ℤ◌, neg_ℤ, List, [], ◌∷◌, length, get_or, map, arith, refl, sym, ap, ap₂, ◌∙◌, subst}
-use Rattle.std.specs.Prelude.{◌<ℤ◌}
-use Rattle.std.proofs.lemmas.Int.{ints}
-use Rattle.exact_num.proofs.Integers.{*ℤ_pos, <ℤ_cancel}
-use Rattle.exact_num.proofs.Ring.{ring, zero-*ℤ}
-use Rattle.written_method.specs.Lines.{Line, entry_of, cleared}
-use Rattle.written_method.specs.Tableaus.{negated_line}
-use Rattle.written_method.proofs.CombinedLaws.{IsCleared, cleared-IsCleared}
-use Rattle.written_method.proofs.BasisLaws.{length-cleared}
-use Rattle.simplex_core.specs.Kept.{IsPrimitive}
+use Rattle.simplex_core.proofs.Common.{◌≡◌, ℕ, zero, suc, ℤ, pos, ◌+ℤ◌, ◌-ℤ◌, ◌*ℤ◌, neg_ℤ, List, [], ◌∷◌, length, get_or, map, arith, refl, sym, ap, ap₂, ◌∙◌, subst, ◌<ℤ◌, ints, *ℤ_pos, <ℤ_cancel, ring, zero-*ℤ, Line, entry_of, cleared, negated_line, IsCleared, cleared-IsCleared, length-cleared, IsPrimitive}
 use Rattle.simplex_core.proofs.PrimitiveLaws.{same_lines, cleared-IsPrimitive, negated_line-IsPrimitive}
 
 -- ---- identities; r, k and l are the numbers of x0's row, of the row that the method pivots in, and of the line: in columns c, d and j

@@ -1,7 +1,5 @@
 -- Which column enters, after 0, 49, 50 and 51 degenerate pivots in a row.
-use Rattle.std.proofs.Common.{◌≡◌, pos, negsuc, Some, None, [], ◌∷◌, refl}
-use Rattle.written_method.specs.Tableaus.{Tableau}
-use Rattle.simplex_core.specs.Views.{entering_by}
+use Rattle.simplex_core.proofs.Common.{◌≡◌, pos, negsuc, Some, None, [], ◌∷◌, refl, Tableau, entering_by}
 
 -- a row of z with the entries 0, 2, -1, 5, 5
 abbrev two_and_five : Tableau

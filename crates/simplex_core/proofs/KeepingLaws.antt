@@ -1,15 +1,5 @@
 -- What holds of a kept tableau holds of the next.
-use Rattle.std.proofs.Common.{◌≡◌, ◌≢◌, ℕ, suc, ◌<◌, pos, neg_ℤ, length, set, arith, sym, ap, ◌∙◌, subst, inl, inr, if◌then◌else◌}
-use Rattle.std.specs.Prelude.{◌<ℤ◌}
-use Rattle.std.proofs.lemmas.List.{get_or-set_same, get_or-set_other}
-use Rattle.std.proofs.Math.ListN.{length-set}
-use Rattle.row_core.specs.Numbers.{is_zero}
-use Rattle.written_method.specs.Lines.{Line, entry_of, factor_of, line_less, lowest_line, cleared}
-use Rattle.written_method.specs.Tableaus.{Tableau, line_of, basic_of, rows_of, no_line, pivoted, negated_line}
-use Rattle.written_method.specs.Basis.{IsShaped}
-use Rattle.written_method.proofs.PivotLaws.{length-pivoted, rows_of-pivoted, line_of-pivoted, line_of-other, same_or_not}
-use Rattle.written_method.proofs.BasisLaws.{IsShaped-pivoted}
-use Rattle.simplex_core.specs.Kept.{IsPrimitive, IsArtificial, IsKept, exchanged}
+use Rattle.simplex_core.proofs.Common.{◌≡◌, ◌≢◌, ℕ, suc, ◌<◌, pos, neg_ℤ, length, set, arith, sym, ap, ◌∙◌, subst, inl, inr, if◌then◌else◌, ◌<ℤ◌, get_or-set_same, get_or-set_other, length-set, is_zero, Line, entry_of, factor_of, line_less, lowest_line, cleared, Tableau, line_of, basic_of, rows_of, no_line, pivoted, negated_line, IsShaped, length-pivoted, rows_of-pivoted, line_of-pivoted, line_of-other, same_or_not, IsShaped-pivoted, IsPrimitive, IsArtificial, IsKept, exchanged}
 use Rattle.simplex_core.proofs.PrimitiveLaws.{cleared-IsPrimitive, negated_line-IsPrimitive}
 use Rattle.simplex_core.proofs.ClearedTwice.{turned-positive, length-negated}
 use Rattle.simplex_core.proofs.KeptLaws.{IsChosen, chosen-AreReady, length-exchanged, rows_of-exchanged, exchanged-home, exchanged-row, exchanged-other}

@@ -1,21 +1,8 @@
 -- The code's numbers are those of the rough lines; and the choices, one column or row after another.
-use Rattle.std.proofs.Common.{◌≡◌, ◌≢◌, ℕ, suc, ◌+◌, ◌<◌, ◌≤◌, ℤ, pos, Bool, true, false, List, Option, Some, None, length, get_or, set, map, drop, arith, refl, sym, ap, ap₂, ◌∙◌, subst, if◌then◌else◌, add-one, inl, inr}
-use Rattle.std.specs.Prelude.{int_lt}
-use Rattle.std.proofs.lemmas.Bool.{eq-eqb, ne_eqb, cases_lt}
+use Rattle.simplex_core.proofs.Common.{◌≡◌, ◌≢◌, ℕ, suc, ◌+◌, ◌<◌, ◌≤◌, ℤ, pos, Bool, true, false, List, Option, Some, None, length, get_or, set, map, drop, arith, refl, sym, ap, ap₂, ◌∙◌, subst, if◌then◌else◌, add-one, inl, inr, int_lt, eq-eqb, ne_eqb, cases_lt, get_or-set_same, get_or-set_other, get_or-map, get_or_past, drop_more, length-set, Line, entry_of, less, Tableau, line_of, rows_of, no_line, greatest_from, first_positive_from, leaving_from, better, rank_of, Due, Pivot, NoColumn, NoRow, same_or_not, IsLeast, leaving-IsLeast, IsKept, rough_line, rough_lines, kept_entering, kept_leaving, kept_due, kept_state, rough_of, kept_basics, candidate_of}
 use Rattle.simplex_core.proofs.ChoiceLaws.{AreZeros}
-use Rattle.std.proofs.lemmas.List.{get_or-set_same, get_or-set_other, get_or-map, get_or_past, drop_more}
-use Rattle.std.proofs.Math.ListN.{length-set}
-use Rattle.written_method.specs.Lines.{Line, entry_of, less}
-use Rattle.written_method.specs.Tableaus.{Tableau, line_of, rows_of, no_line}
 use Rattle.written_method.specs.Choices as choices
-use Rattle.written_method.specs.Choices.{greatest_from, first_positive_from, leaving_from, better, rank_of}
-use Rattle.written_method.specs.Rounds.{Due, Pivot, NoColumn, NoRow}
-use Rattle.written_method.proofs.PivotLaws.{same_or_not}
-use Rattle.written_method.proofs.LeavingLaws.{IsLeast, leaving-IsLeast}
-use Rattle.simplex_core.specs.Kept.{IsKept}
-use Rattle.simplex_core.specs.KeptRounds.{rough_line, rough_lines, kept_entering, kept_leaving, kept_due}
 use Rattle.simplex_core.proofs.StateLaws.{get_or-all_less, lines_length, length-rough}
-use Rattle.simplex_core.specs.KeptViews.{kept_state, rough_of, kept_basics, candidate_of}
 
 in_lines : (t : Tableau) (h d i : ℕ) → IsKept h d t → i < rows_of t → i < length t.lines
 in_lines t h d i w k = let more : rows_of t < length t.lines = w.shaped.lines in omega arith

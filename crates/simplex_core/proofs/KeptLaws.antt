@@ -1,12 +1,5 @@
 -- A pivot of the method in the first phase is one of the kept tableau in x0's row, and an exchange of two rows.
-use Rattle.std.proofs.Common.{◌≡◌, ◌≢◌, ℕ, zero, suc, ◌<◌, pos, List, [], ◌∷◌, length, set, arith, refl, sym, ap, ap₂, ◌∙◌, subst, inl, inr}
-use Rattle.std.specs.Prelude.{◌<ℤ◌}
-use Rattle.std.proofs.lemmas.List.{get_or-set_same, get_or-set_other, set-set, ext_get_or}
-use Rattle.std.proofs.Math.ListN.{length-set}
-use Rattle.written_method.specs.Lines.{Line, entry_of, cleared}
-use Rattle.written_method.specs.Tableaus.{Tableau, line_of, basic_of, rows_of, no_line, pivoted, negated_line}
-use Rattle.written_method.proofs.PivotLaws.{length-pivoted, line_of-pivoted, line_of-other, same_or_not}
-use Rattle.simplex_core.specs.Kept.{IsKept, shown, exchanged}
+use Rattle.simplex_core.proofs.Common.{◌≡◌, ◌≢◌, ℕ, zero, suc, ◌<◌, pos, List, [], ◌∷◌, length, set, arith, refl, sym, ap, ap₂, ◌∙◌, subst, inl, inr, ◌<ℤ◌, get_or-set_same, get_or-set_other, set-set, ext_get_or, length-set, Line, entry_of, cleared, Tableau, line_of, basic_of, rows_of, no_line, pivoted, negated_line, length-pivoted, line_of-pivoted, line_of-other, same_or_not, IsKept, shown, exchanged}
 use Rattle.simplex_core.proofs.ClearedTwice.{AreReady, turned, cleared-other, cleared-row, cleared-home, cleared-last}
 
 -- ---- lists and tableaus

@@ -1,10 +1,5 @@
 -- What is reached by some pivots of the method.
-use Rattle.std.proofs.Common.{◌≡◌, ℕ, zero, suc, refl, sym, subst, pos}
-use Rattle.std.specs.Prelude.{◌<ℤ◌}
-use Rattle.written_method.specs.Programs.{LinearProgram}
-use Rattle.written_method.specs.Rounds.{State, Due, Pivot, NoColumn, NoRow, due, after}
-use Rattle.written_method.proofs.ReachedLaws.{IsReached, IsReached-after}
-use Rattle.simplex_core.specs.KeptViews.{advanced}
+use Rattle.simplex_core.proofs.Common.{◌≡◌, ℕ, zero, suc, refl, sym, subst, pos, ◌<ℤ◌, LinearProgram, State, Due, Pivot, NoColumn, NoRow, due, after, IsReached, IsReached-after, advanced}
 use Rattle.simplex_core.proofs.KeptWayLaws.{advanced-zero, advanced-due, stays}
 
 pub advanced-IsReached : (p : LinearProgram) (n : ℕ) (s : State) → pos 0 <ℤ p.cost_own → IsReached p s → IsReached p (advanced n s)

@@ -1,26 +1,10 @@
 -- One round of the code's loop.
-use Rattle.std.proofs.Common.{◌≡◌, ◌≢◌, ℕ, zero, suc, ◌<◌, Bool, List, [], ◌∷◌, length, get_or, set, arith, sym, ap, ap₂, ◌∙◌, subst, if◌then◌else◌}
-use Rattle.std.proofs.lemmas.Bool.{eq-eqb, ne_eqb}
-use Rattle.row_core.specs.Numbers.{is_zero}
-use Rattle.written_method.specs.Lines.{Line}
-use Rattle.written_method.specs.Tableaus.{Tableau, line_of, rows_of, pivoted, without_x0}
-use Rattle.written_method.specs.Rounds.{Pivot, after}
+use Rattle.simplex_core.proofs.Common.{◌≡◌, ◌≢◌, ℕ, zero, suc, ◌<◌, Bool, List, [], ◌∷◌, length, get_or, set, arith, sym, ap, ap₂, ◌∙◌, subst, if◌then◌else◌, eq-eqb, ne_eqb, is_zero, Line, Tableau, line_of, rows_of, pivoted, without_x0, Pivot, after, answer, IsKept, exchanged, KeptState, shown_state, kept_due, rough_line, IsNowhere, swapped, kept_state, rough_of, second_phase, FitsPivot, kept_entering, kept_leaving, x0_in, IsKeptDue, Candidate, Some}
 use Rattle.simplex_core.proofs.StateLaws.{after-kept, after-left}
-use Rattle.written_method.specs.Runs.{answer}
-use Rattle.simplex_core.specs.Kept.{IsKept, exchanged}
-use Rattle.simplex_core.specs.KeptRounds.{KeptState, shown_state, kept_due, rough_line}
 use Rattle.simplex_core.proofs.AnswerLaws.{IsDue, kept_due-IsDue, answer-next, answer-left}
-use Rattle.int_tableau.specs.Shapes.{IsNowhere}
-use Rattle.int_tableau.specs.Swaps.{swapped}
-use Rattle.simplex_core.specs.KeptViews.{kept_state, rough_of, second_phase, FitsPivot}
 use Rattle.simplex_core.proofs.KeptSwapLaws.{swapped-pivoted}
-use Rattle.simplex_core.specs.KeptRounds.{kept_entering, kept_leaving}
-use Rattle.simplex_core.specs.KeptViews.{x0_in}
-use Rattle.simplex_core.specs.KeptEnds.{IsKeptDue}
 use Rattle.simplex_core.specs.declared.kept_due.KeptDue.TheVariants as dues
 use Rattle.simplex_core.proofs.KeptChoiceLaws.{due-is, leaving-right}
-use Rattle.written_method.specs.Choices.{Candidate}
-use Rattle.std.proofs.Common.{Some}
 
 -- what a pivot that is due shows, for a state with any number of pivots
 pub due-at : (t : Tableau) (h d r c deg : ℕ) → IsKept h d t → kept_due (kept_state t h d 0 deg) ≡ Pivot r c → IsDue (kept_state t h d 0 deg) r c

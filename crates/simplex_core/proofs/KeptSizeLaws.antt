@@ -1,21 +1,8 @@
 -- Sizes of lines.
-use Rattle.std.proofs.Common.{◌≡◌, ◌≢◌, ℕ, ◌+◌, ◌*◌, ◌^◌, ◌<◌, ◌≤◌, ℤ, Bool, true, false, Option, Some, None, List, [], ◌∷◌, length, arith, refl, sym, ap, ◌∙◌, subst, if◌then◌else◌, inl, inr}
-use Rattle.std.specs.Prelude.{unsigned_abs, nat_lt, IfSome}
-use Rattle.std.proofs.lemmas.Nat.{mul-le}
-use Rattle.std.proofs.lemmas.Bool.{eq-eqb, ne_eqb, cases_lt}
-use borrow.Author.Tests.{ltb-true, ltb-false}
-use Rattle.written_method.specs.Lines.{Line, entry_of, numbers_of}
-use Rattle.written_method.specs.Tableaus.{Tableau, line_of, rows_of}
-use Rattle.simplex_core.specs.Kept.{IsKept}
-use Rattle.simplex_core.specs.KeptRounds.{KeptState}
-use Rattle.simplex_core.specs.Widths.{AllWithin, late_size, late_entry}
+use Rattle.simplex_core.proofs.Common.{◌≡◌, ◌≢◌, ℕ, ◌+◌, ◌*◌, ◌^◌, ◌<◌, ◌≤◌, ℤ, Bool, true, false, Option, Some, None, List, [], ◌∷◌, length, arith, refl, sym, ap, ◌∙◌, subst, if◌then◌else◌, inl, inr, unsigned_abs, nat_lt, IfSome, mul-le, eq-eqb, ne_eqb, cases_lt, ltb-true, ltb-false, Line, entry_of, numbers_of, Tableau, line_of, rows_of, IsKept, KeptState, AllWithin, late_size, late_entry, x0_in, kept_state, rough_of, FitsPivot, IsWithin, AreSpread, unsigned_abs_pos, nonzero_of_pos, same_or_not, greater_of, greatest_size, size_in, IsLineNarrow}
 use Rattle.simplex_core.proofs.KeptWidths.{kept-fits}
-use Rattle.simplex_core.specs.KeptViews.{x0_in, kept_state, rough_of, FitsPivot, IsWithin, AreSpread}
 use Rattle.simplex_core.specs.declared.kept_choice.Spread.{Spread}
 use Rattle.int_tableau.specs.Sizes.{AreWithin}
-use Rattle.exact_num.proofs.Integers.{unsigned_abs_pos, nonzero_of_pos}
-use Rattle.written_method.proofs.PivotLaws.{same_or_not}
-use Rattle.simplex_core.specs.KeptViews.{greater_of, greatest_size, size_in, IsLineNarrow}
 use Rattle.simplex_core.proofs.KeptChoiceLaws.{rough-line}
 
 greater-is : (m n : ℕ) → (m ≤ greater_of m n) × (n ≤ greater_of m n) × ((k : ℕ) → m ≤ k → n ≤ k → greater_of m n ≤ k)

@@ -1,30 +1,9 @@
 -- The first pivot, which is kept back.
-use Rattle.std.proofs.Common.{◌≡◌, ℕ, suc, ◌+◌, ◌-◌, ◌<◌, ◌≤◌, ℤ, pos, neg_ℤ, Bool, true, false, List, [], ◌∷◌, length, get_or, map, refl, sym, ap, ap₂, ◌∙◌, subst, arith, lit<, if◌then◌else◌}
-use Rattle.std.specs.Prelude.{◌<ℤ◌, unsigned_abs}
-use Rattle.std.proofs.lemmas.Int.{ints}
-use Rattle.exact_num.proofs.Integers.{unsigned_abs-neg_ℤ}
-use Rattle.exact_num.specs.Range.{all_fit}
-use Rattle.row_core.specs.Numbers.{is_zero}
-use Rattle.row_core.proofs.DivisionLaws.{is_zero-fact}
-use Rattle.written_method.specs.Lines.{Line, entry_of, numbers_of}
-use Rattle.written_method.specs.Tableaus.{Tableau, line_of, rows_of, negated}
-use Rattle.written_method.specs.Programs.{LinearProgram}
-use Rattle.written_method.specs.FirstTableau.{any_negative, first_state, first_phase, tableau_with, width_of, artificial_line}
-use Rattle.written_method.specs.Choices.{least_right_from}
-use Rattle.written_method.specs.Rounds.{State, Start, Two, Pivot, due, after, step_of, right_sides}
-use Rattle.written_method.specs.Runs.{answer}
-use Rattle.written_method.proofs.RunLaws.{answer-pivot}
-use Rattle.written_method.proofs.FirstLaws.{IsShaped-first, length-lines, length-tail, rows_of-first, line-row, line-artificial, row_line-x0, artificial-x0, artificial-other, basic_of-first, no_row}
-use Rattle.written_method.proofs.BegunLaws.{IsLowestRow, lowest-IsLowestRow}
+use Rattle.simplex_core.proofs.Common.{◌≡◌, ℕ, suc, ◌+◌, ◌-◌, ◌<◌, ◌≤◌, ℤ, pos, neg_ℤ, Bool, true, false, List, [], ◌∷◌, length, get_or, map, refl, sym, ap, ap₂, ◌∙◌, subst, arith, lit<, if◌then◌else◌, ◌<ℤ◌, unsigned_abs, ints, unsigned_abs-neg_ℤ, all_fit, is_zero, is_zero-fact, Line, entry_of, numbers_of, Tableau, line_of, rows_of, negated, LinearProgram, any_negative, first_state, first_phase, tableau_with, width_of, artificial_line, least_right_from, State, Start, Two, Pivot, due, after, step_of, right_sides, answer, answer-pivot, IsShaped-first, length-lines, length-tail, rows_of-first, line-row, line-artificial, row_line-x0, artificial-x0, artificial-other, basic_of-first, no_row, IsLowestRow, lowest-IsLowestRow, AllWithin, KeptEnd, x0_in, kept_state, IsPlain, advanced, IsSecond, IsKeptEnd, state_seen}
 use Rattle.written_method.proofs.DroppedLaws.{entry-negated, each-negated, length-lines-negated}
 use Rattle.simplex_core.specs.KeptRounds.{IsFirst, shown_state, start_state}
-use Rattle.simplex_core.specs.Widths.{AllWithin}
 use Rattle.simplex_core.proofs.WidthLaws.{pivot_formed-fits}
-use Rattle.simplex_core.specs.declared.kept_rounds.KeptEnd.{KeptEnd}
 use Rattle.simplex_core.specs.declared.kept_rounds.KeptEnd.TheVariants as ends
-use Rattle.simplex_core.specs.KeptViews.{x0_in, kept_state, IsPlain, advanced}
-use Rattle.simplex_core.specs.KeptEnds.{IsSecond, IsKeptEnd}
-use Rattle.simplex_core.specs.Views.{state_seen}
 use Rattle.simplex_core.proofs.KeptSizeLaws.{AllWithin-of}
 use Rattle.simplex_core.proofs.KeptWayLaws.{advanced-due}
 

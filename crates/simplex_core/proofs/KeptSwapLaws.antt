@@ -1,14 +1,7 @@
 -- Two rows in each other's place, as the code exchanges them, are the kept tableau's next.
-use Rattle.std.proofs.Common.{◌≡◌, ◌≢◌, ℕ, ◌<◌, List, length, set, arith, sym, ap, ap₂, ◌∙◌}
-use Rattle.std.proofs.lemmas.List.{get_or-set_same, get_or-set_other, set-set}
+use Rattle.simplex_core.proofs.Common.{◌≡◌, ◌≢◌, ℕ, ◌<◌, List, length, set, arith, sym, ap, ap₂, ◌∙◌, get_or-set_same, get_or-set_other, set-set, length-set, Line, Tableau, line_of, basic_of, rows_of, no_line, pivoted, negated_line, length-pivoted, rows_of-pivoted, line_of-pivoted, exchanged, swapped}
 use Rattle.std.proofs.lemmas.List.Edits.{swap_is}
-use Rattle.std.proofs.Math.ListN.{length-set}
-use Rattle.written_method.specs.Lines.{Line}
-use Rattle.written_method.specs.Tableaus.{Tableau, line_of, basic_of, rows_of, no_line, pivoted, negated_line}
-use Rattle.written_method.proofs.PivotLaws.{length-pivoted, rows_of-pivoted, line_of-pivoted}
-use Rattle.simplex_core.specs.Kept.{exchanged}
 use Rattle.simplex_core.proofs.KeptLaws.{set_turned, same_tableaus}
-use Rattle.int_tableau.specs.Swaps.{swapped}
 
 pub swapped-pivoted : (t : Tableau) (h r c : ℕ) → h < length t.lines → r < length t.lines → h < rows_of t → r < rows_of t → r ≢ h → swapped h r (pivoted h c t) ≡ exchanged h r c t
 swapped-pivoted t h r c kh kr bh br n =

@@ -1,21 +1,9 @@
 -- From one state of phase 1 that the kept tableau shows to the next, and to its ends.
-use Rattle.std.proofs.Common.{◌≡◌, ◌≢◌, ℕ, zero, suc, ◌-◌, ◌<◌, ◌≤◌, Bool, true, false, refl, sym, ap, ap₂, ◌∙◌, subst, arith, if◌then◌else◌}
-use Rattle.row_core.specs.Numbers.{is_zero}
-use Rattle.written_method.specs.Tableaus.{Tableau, pivoted, without_x0}
-use Rattle.written_method.specs.Rounds.{State, Due, Pivot, NoColumn, NoRow, due, after}
-use Rattle.written_method.specs.Runs.{Ended, Infeasible, PivotDue, answer}
-use Rattle.simplex_core.specs.Kept.{IsKept}
-use Rattle.simplex_core.specs.KeptRounds.{KeptState, shown_state, kept_due}
+use Rattle.simplex_core.proofs.Common.{◌≡◌, ◌≢◌, ℕ, zero, suc, ◌-◌, ◌<◌, ◌≤◌, Bool, true, false, refl, sym, ap, ap₂, ◌∙◌, subst, arith, if◌then◌else◌, is_zero, Tableau, pivoted, without_x0, State, Due, Pivot, NoColumn, NoRow, due, after, Ended, Infeasible, PivotDue, answer, IsKept, KeptState, shown_state, kept_due, Counted, swapped, x0_in, kept_state, rough_of, second_phase, FitsPivot, advanced, KeptEnd, ending_seen, IsSecond, IsOnWay, IsKeptEnd, IsLastEnd}
 use Rattle.simplex_core.proofs.StateLaws.{due-kept}
 use Rattle.simplex_core.proofs.AnswerLaws.{answer-infeasible, answer-budget}
-use Rattle.int_tableau.specs.Counted.{Counted}
-use Rattle.int_tableau.specs.Swaps.{swapped}
-use Rattle.simplex_core.specs.KeptViews.{x0_in, kept_state, rough_of, second_phase, FitsPivot, advanced}
-use Rattle.simplex_core.specs.declared.kept_rounds.KeptEnd.{KeptEnd}
 use Rattle.simplex_core.specs.declared.kept_rounds.KeptEnd.TheVariants as ends
 use Rattle.simplex_core.specs.declared.running.Finish.{Finish}
-use Rattle.simplex_core.specs.Views.{ending_seen}
-use Rattle.simplex_core.specs.KeptEnds.{IsSecond, IsOnWay, IsKeptEnd, IsLastEnd}
 use Rattle.simplex_core.proofs.KeptRoundLaws.{IsNext, round-next, round-left, left-after}
 
 -- ---- states after so many pivots

@@ -1,20 +1,5 @@
 -- All numbers of the method's next pivot fit where the sizes of the kept numbers say so.
-use Rattle.std.proofs.Common.{◌≡◌, true, ℕ, zero, suc, ◌+◌, ◌*◌, ◌<◌, ◌≤◌, ℤ, pos, ◌-ℤ◌, ◌*ℤ◌, List, [], ◌∷◌, length, get_or, map, arith, refl, sym, ap, ◌∙◌, subst, if◌then◌else◌, inl, inr}
-use Rattle.std.specs.Prelude.{◌<ℤ◌, unsigned_abs}
-use Rattle.std.proofs.lemmas.Int.{unsigned_abs-mul}
-use Rattle.std.proofs.lemmas.Bool.{eq-eqb, ne_eqb}
-use Rattle.std.proofs.lemmas.List.{get_or-set_same, get_or-set_other, get_or-map}
-use Rattle.std.proofs.Math.Nat.{le-mul_of_pos_right}
-use Rattle.exact_num.specs.Range.{all_fit}
-use Rattle.exact_num.proofs.Integers.{unsigned_abs_pos, nonzero_of_pos}
-use Rattle.written_method.specs.Lines.{Line, entry_of, numbers_of, cleared}
-use Rattle.written_method.specs.Tableaus.{line_of, rows_of, no_line}
-use Rattle.written_method.specs.Rounds.{step_of}
-use Rattle.written_method.proofs.CombinedLaws.{IsCleared, cleared-IsCleared}
-use Rattle.written_method.proofs.PivotLaws.{length-pivoted, line_of-pivoted, line_of-other, same_or_not}
-use Rattle.simplex_core.specs.Kept.{shown}
-use Rattle.simplex_core.specs.KeptRounds.{KeptState, shown_state, home_line, rough_line, rough_lines}
-use Rattle.simplex_core.specs.Widths.{AllWithin, AreSizes, late_size, late_entry, IsNarrow}
+use Rattle.simplex_core.proofs.Common.{◌≡◌, true, ℕ, zero, suc, ◌+◌, ◌*◌, ◌<◌, ◌≤◌, ℤ, pos, ◌-ℤ◌, ◌*ℤ◌, List, [], ◌∷◌, length, get_or, map, arith, refl, sym, ap, ◌∙◌, subst, if◌then◌else◌, inl, inr, ◌<ℤ◌, unsigned_abs, unsigned_abs-mul, eq-eqb, ne_eqb, get_or-set_same, get_or-set_other, get_or-map, le-mul_of_pos_right, all_fit, unsigned_abs_pos, nonzero_of_pos, Line, entry_of, numbers_of, cleared, line_of, rows_of, no_line, step_of, IsCleared, cleared-IsCleared, length-pivoted, line_of-pivoted, line_of-other, same_or_not, shown, KeptState, shown_state, home_line, rough_line, rough_lines, AllWithin, AreSizes, late_size, late_entry, IsNarrow}
 use Rattle.simplex_core.proofs.StateLaws.{IsKeptState, in_lines, get_or-all_less, lines_length}
 use Rattle.simplex_core.proofs.WidthLaws.{size-times, size-minus, pivot_formed-fits}
 

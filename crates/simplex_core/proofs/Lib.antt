@@ -1,3 +1,4 @@
+mod Common
 pub mod ChoiceLaws
 pub mod StepLaws
 pub mod ValueLaws

@@ -1,36 +1,14 @@
 -- What an answer of the method means, and why it stops before.
-use Rattle.std.proofs.Common.{◌≡◌, ℕ, ◌+◌, ◌<◌, ◌≤◌, pos, Bool, true, false, Option, Some, None, List, [], ◌++◌, length, arith, refl, sym, ap, ap₂, ◌∙◌, subst, inl, inr, if◌then◌else◌}
+use Rattle.simplex_core.proofs.Common.{◌≡◌, ℕ, ◌+◌, ◌<◌, ◌≤◌, pos, Bool, true, false, Option, Some, None, List, [], ◌++◌, length, arith, refl, sym, ap, ap₂, ◌∙◌, subst, inl, inr, if◌then◌else◌, cases_lt, nat_tests, ints, get_or_past, Step, first_wide, first_wide-append, first_wide-nil, Place, Stopped, Width, Memory, first_state, width_of, Line, entry_of, LinearProgram, State, Answer, Ended, RanOut, End, Optimal, Infeasible, Unbounded, PivotDue, answer, IsTooWide, checked_end, direction_of, direction_steps, end_steps, optimal_multipliers, outcome_of, outcome_of_end, refuting_multipliers, solved, value_steps, values_of, Tableau, has_x0, line_of, rows_of, IsStuck, deciding-two, due-two, round-NoRow, IsReachedFrom, IsEnd, IsReached, answer-IsReached, infeasible-one, never-NoRow, IsEnding, IsLast, IsHalt, IsProved, halt_of, outcome_seen, IsFirst, IsRanOut}
 use Rattle.std.specs.Option.{option_or}
 use Rattle.std.specs.Prelude.{◌<ℤ◌, ◌⊎◌, nat_lt}
-use Rattle.std.proofs.lemmas.Bool.{cases_lt}
-use Rattle.std.proofs.lemmas.Bool.Decides.{nat_tests}
-use Rattle.std.proofs.lemmas.Int.{ints}
-use Rattle.std.proofs.lemmas.List.{get_or_past}
-use Rattle.exact_num.specs.Steps.{Step, first_wide}
-use Rattle.exact_num.proofs.StepLaws.{first_wide-append, first_wide-nil}
-use Rattle.row_core.specs.declared.place.Place.{Place}
-use Rattle.row_core.specs.declared.place.Stopped.{Stopped}
-use Rattle.row_core.specs.declared.place.Stopped.TheVariants.{Width, Memory}
 use Rattle.written_method.specs.Certificates.{AreOverFrom, ValuesAreOver}
-use Rattle.written_method.specs.FirstTableau.{first_state, width_of}
-use Rattle.written_method.specs.Lines.{Line, entry_of}
-use Rattle.written_method.specs.Programs.{LinearProgram}
 use Rattle.written_method.specs.Ready.{IsPosed}
-use Rattle.written_method.specs.Rounds.{State}
-use Rattle.written_method.specs.Runs.{Answer, Ended, RanOut, End, Optimal, Infeasible, Unbounded, PivotDue, answer}
-use Rattle.written_method.specs.Solved.{IsTooWide, checked_end, direction_of, direction_steps, end_steps, optimal_multipliers, outcome_of, outcome_of_end, refuting_multipliers, solved, value_steps, values_of}
-use Rattle.written_method.specs.Tableaus.{Tableau, has_x0, line_of, rows_of}
 use Rattle.written_method.proofs.CertificateLaws.{infeasible-Refutes, optimal-Bounds}
-use Rattle.written_method.proofs.ChosenLaws.{IsStuck, deciding-two, due-two, round-NoRow}
 use Rattle.written_method.proofs.CostLaws.{IsRay, direction-Descends, direction-Meets, optimal-HasBoundAsCost, unbounded-IsRay}
 use Rattle.written_method.proofs.MeetsLaws.{plan-Meets}
-use Rattle.written_method.proofs.PhaseLaws.{IsReachedFrom}
-use Rattle.written_method.proofs.ReachedLaws.{IsEnd, IsReached, answer-IsReached, infeasible-one, never-NoRow}
 use Rattle.simplex_core.specs.declared.ends.End.{End as Answered}
 use Rattle.simplex_core.specs.declared.ends.End.TheVariants as ends
-use Rattle.simplex_core.specs.LastTableaus.{IsEnding, IsLast}
-use Rattle.simplex_core.specs.Outcomes.{IsHalt, IsProved, halt_of, outcome_seen}
-use Rattle.simplex_core.specs.Runs.{IsFirst, IsRanOut}
 
 -- ---- the last tableau
 

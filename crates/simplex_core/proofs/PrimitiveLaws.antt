@@ -1,21 +1,9 @@
 -- Lines without a common divisor: two that are proportional by positive factors are the same.
-use Rattle.std.proofs.Common.{◌≡◌, ℕ, zero, suc, ◌+◌, ◌*◌, ◌<◌, ℤ, pos, ◌*ℤ◌, neg_ℤ, Bool, true, false, List, [], ◌∷◌, length, get_or, map, arith, refl, sym, ap, ap₂, ◌∙◌, subst, ◌⊎◌, inl, inr, if◌then◌else◌}
-use Rattle.std.specs.Prelude.{int_div, unsigned_abs, ◌<ℤ◌, ◌==◌}
-use Rattle.std.proofs.lemmas.Int.{ints, unsigned_abs-mul}
-use Rattle.std.proofs.lemmas.Bool.{eqb-true, eqb-false}
-use Rattle.std.proofs.Math.Nat.{eq-zero_of_zero-dvd}
-use Rattle.exact_num.specs.Gcd.{gcd_of}
+use Rattle.simplex_core.proofs.Common.{◌≡◌, ℕ, zero, suc, ◌+◌, ◌*◌, ◌<◌, ℤ, pos, ◌*ℤ◌, neg_ℤ, Bool, true, false, List, [], ◌∷◌, length, get_or, map, arith, refl, sym, ap, ap₂, ◌∙◌, subst, ◌⊎◌, inl, inr, if◌then◌else◌, int_div, unsigned_abs, ◌<ℤ◌, ◌==◌, ints, unsigned_abs-mul, eqb-true, eqb-false, eq-zero_of_zero-dvd, gcd_of, *ℤ_cancel, unsigned_abs-neg_ℤ, unsigned_abs-zero, pos-unsigned_abs, unsigned_abs_pos, nonzero_of_pos, zero-*ℤ, DividesAll, is_zero, common_divisor-DividesAll, Line, entry_of, numbers_of, factor_of, line_less, lowest_line, cleared, negated_line, IsPrimitive}
 use Rattle.exact_num.proofs.GcdLaws.{gcd_of-mul}
-use Rattle.exact_num.proofs.Integers.{*ℤ_cancel, unsigned_abs-neg_ℤ, unsigned_abs-zero, pos-unsigned_abs, unsigned_abs_pos, nonzero_of_pos}
-use Rattle.exact_num.proofs.Ring.{zero-*ℤ}
-use Rattle.row_core.specs.Numbers.{DividesAll, is_zero}
 use Rattle.row_core.specs.Written.{common_divisor, row_divisor}
-use Rattle.row_core.proofs.DivisionLaws.{common_divisor-DividesAll}
 use Rattle.row_core.proofs.RowLaws.{times_all}
 use Rattle.row_core.proofs.WrittenLaws.{row_divisor-is, numbers_divided, times_all-divided}
-use Rattle.written_method.specs.Lines.{Line, entry_of, numbers_of, factor_of, line_less, lowest_line, cleared}
-use Rattle.written_method.specs.Tableaus.{negated_line}
-use Rattle.simplex_core.specs.Kept.{IsPrimitive}
 
 -- ---- lists
 

@@ -1,12 +1,6 @@
 -- Quotients are compared by products.
-use Rattle.std.proofs.Common.{◌≡◌, ℤ, pos, ◌*ℤ◌, sym, ap, ap₂, ◌∙◌}
-use Rattle.std.specs.Prelude.{◌<ℤ◌}
-use Rattle.std.specs.Ordering.{int_cmp}
-use Rattle.exact_num.specs.Rational.{Rational, IsLowest, lowest, order_of}
-use Rattle.exact_num.proofs.Integers.{nonzero_of_pos, *ℤ_pos}
+use Rattle.simplex_core.proofs.Common.{◌≡◌, ℤ, pos, ◌*ℤ◌, sym, ap, ap₂, ◌∙◌, ◌<ℤ◌, int_cmp, Rational, IsLowest, lowest, order_of, nonzero_of_pos, *ℤ_pos, lowest-cross, lowest-IsLowest, ring}
 use Rattle.exact_num.proofs.OrderLaws.{int_cmp-mul}
-use Rattle.exact_num.proofs.RationalLaws.{lowest-cross, lowest-IsLowest}
-use Rattle.exact_num.proofs.Ring.{ring}
 
 left_side : (t b d e : ℤ) → (t *ℤ b) *ℤ (d *ℤ e) ≡ (t *ℤ d) *ℤ (b *ℤ e)
 left_side t b d e = simp ring

@@ -1,15 +1,6 @@
 -- Lines that are positive multiples of one another lead to the same choices.
-use Rattle.std.proofs.Common.{◌≡◌, ℕ, suc, ◌<◌, ℤ, pos, ◌*ℤ◌, Bool, true, false, Option, Some, None, List, [], ◌∷◌, length, get_or, arith, refl, sym, ap, ap₂, ◌∙◌, subst, if◌then◌else◌}
-use Rattle.std.specs.Prelude.{◌<ℤ◌, int_lt, nat_lt, ⊤}
+use Rattle.simplex_core.proofs.Common.{◌≡◌, ℕ, suc, ◌<◌, ℤ, pos, ◌*ℤ◌, Bool, true, false, Option, Some, None, List, [], ◌∷◌, length, get_or, arith, refl, sym, ap, ap₂, ◌∙◌, subst, if◌then◌else◌, ◌<ℤ◌, int_lt, nat_lt, ⊤, ints, lowest, order_of, nonzero_of_pos, *ℤ-<ℤ, <ℤ_cancel, lowest-mul, zero-*ℤ, Line, entry_of, no_line, Candidate, greatest_from, first_positive_from, leaves_before, better, rank_of, leaving_from}
 use Rattle.std.specs.declared.cmp.Ordering.TheVariants.{Less, Equal, Greater}
-use Rattle.std.proofs.lemmas.Int.{ints}
-use Rattle.exact_num.specs.Rational.{lowest, order_of}
-use Rattle.exact_num.proofs.Integers.{nonzero_of_pos, *ℤ-<ℤ, <ℤ_cancel}
-use Rattle.exact_num.proofs.RationalLaws.{lowest-mul}
-use Rattle.exact_num.proofs.Ring.{zero-*ℤ}
-use Rattle.written_method.specs.Lines.{Line, entry_of}
-use Rattle.written_method.specs.Tableaus.{no_line}
-use Rattle.written_method.specs.Choices.{Candidate, greatest_from, first_positive_from, leaves_before, better, rank_of, leaving_from}
 use Rattle.simplex_core.proofs.PrimitiveLaws.{AreProportional}
 
 -- ---- one number

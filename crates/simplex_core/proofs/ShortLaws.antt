@@ -1,13 +1,8 @@
 -- The numbers of 64 bits are those of the rough lines.
-use Rattle.std.proofs.Common.{◌≡◌, ◌≢◌, ℕ, ◌<◌, ◌-◌, length, sym, ap, ap₂, ◌∙◌, arith}
-use Rattle.written_method.specs.Lines.{entry_of, less}
-use Rattle.written_method.specs.Tableaus.{Tableau, line_of, rows_of}
-use Rattle.simplex_core.specs.Kept.{IsKept}
+use Rattle.simplex_core.proofs.Common.{◌≡◌, ◌≢◌, ℕ, ◌<◌, ◌-◌, length, sym, ap, ap₂, ◌∙◌, arith, entry_of, less, Tableau, line_of, rows_of, IsKept, IsHome, rough_of, x0_in, AreRough}
 use Rattle.int_tableau.specs.Shorts.{AreOf}
 use Rattle.int_tableau.specs.declared.short_numbers.ShortNumbers.{ShortNumbers}
 use Rattle.simplex_core.specs.declared.home.Home.{Home}
-use Rattle.simplex_core.specs.KeptViews.{IsHome, rough_of, x0_in}
-use Rattle.simplex_core.specs.ShortViews.{AreRough}
 use Rattle.simplex_core.proofs.KeptChoiceLaws.{rough-entry, rough-entry_home, rough-right, rough-right_home}
 
 -- the last entry of a line is that at x0

@@ -1,15 +1,5 @@
 -- The first pivot, and that a row can always leave.
-use Rattle.std.proofs.Common.{◌≡◌, ◌≢◌, ℕ, zero, suc, ◌<◌, pos, neg_ℤ, Bool, true, false, Option, Some, None, List, [], ◌∷◌, length, get_or, set, arith, refl, sym, ap, ◌∙◌, subst, if◌then◌else◌, inl, inr}
-use Rattle.std.specs.Prelude.{◌<ℤ◌, ◌≤ℤ◌, int_lt}
-use Rattle.std.proofs.lemmas.Int.{ints}
-use Rattle.std.proofs.lemmas.List.{get_or-set_same, get_or-set_other}
-use Rattle.std.proofs.Math.ListN.{length-set}
-use Rattle.written_method.specs.Lines.{Line, entry_of}
-use Rattle.written_method.specs.Tableaus.{Tableau, line_of, rows_of, no_line, negated, negated_line}
-use Rattle.written_method.specs.Choices.{Candidate, better, rank_of, leaving_from}
-use Rattle.written_method.specs.Rounds.{Due, Pivot, NoColumn, NoRow}
-use Rattle.written_method.proofs.PivotLaws.{same_or_not}
-use Rattle.simplex_core.specs.Kept.{IsPrimitive, IsArtificial, IsKept}
+use Rattle.simplex_core.proofs.Common.{◌≡◌, ◌≢◌, ℕ, zero, suc, ◌<◌, pos, neg_ℤ, Bool, true, false, Option, Some, None, List, [], ◌∷◌, length, get_or, set, arith, refl, sym, ap, ◌∙◌, subst, if◌then◌else◌, inl, inr, ◌<ℤ◌, ◌≤ℤ◌, int_lt, ints, get_or-set_same, get_or-set_other, length-set, Line, entry_of, Tableau, line_of, rows_of, no_line, negated, negated_line, Candidate, better, rank_of, leaving_from, Due, Pivot, NoColumn, NoRow, same_or_not, IsPrimitive, IsArtificial, IsKept}
 use Rattle.simplex_core.specs.KeptRounds.{KeptState, home_line, rough_line, rough_lines, kept_entering, kept_leaving, kept_due, IsFirst}
 use Rattle.simplex_core.proofs.PrimitiveLaws.{negated_line-IsPrimitive}
 use Rattle.simplex_core.proofs.ClearedTwice.{length-negated, entry_of-negated}

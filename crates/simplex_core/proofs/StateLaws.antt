@@ -1,23 +1,5 @@
 -- What is due in the method's state and its next state, from the kept tableau.
-use Rattle.std.proofs.Common.{◌≡◌, ℕ, zero, suc, ◌-◌, ◌<◌, ℤ, pos, ◌-ℤ◌, ◌*ℤ◌, neg_ℤ, Bool, true, false, Option, Some, None, List, [], ◌∷◌, length, get_or, set, map, arith, refl, sym, ap, ap₂, ◌∙◌, subst, if◌then◌else◌, inl, inr, add-one}
-use Rattle.std.specs.Prelude.{◌<ℤ◌, nat_lt, ◌==◌}
-use Rattle.std.proofs.lemmas.Int.{ints}
-use Rattle.std.proofs.lemmas.Bool.{eq-eqb, ne_eqb}
-use Rattle.std.proofs.lemmas.List.{get_or-set_same, get_or-set_other, get_or-map}
-use Rattle.std.proofs.Math.ListN.{length-set}
-use Rattle.exact_num.proofs.Integers.{*ℤ_cancel, nonzero_of_pos}
-use Rattle.exact_num.proofs.Ring.{ring, *ℤ-one, *ℤ-zero, zero-*ℤ}
-use Rattle.row_core.specs.Numbers.{is_zero}
-use Rattle.row_core.proofs.DivisionLaws.{is_zero-fact}
-use Rattle.written_method.specs.Lines.{Line, entry_of, less, all_less, cleared}
-use Rattle.written_method.specs.Tableaus.{Tableau, line_of, basic_of, rows_of, no_line, pivoted, without_x0}
-use Rattle.written_method.specs.Choices.{Candidate, greatest_from, first_positive_from, leaving_from}
-use Rattle.written_method.specs.Rounds.{State, Phase, One, Two, Due, Pivot, NoColumn, NoRow, entering, deciding_line, leaving, due, after}
-use Rattle.written_method.proofs.CombinedLaws.{IsCleared, cleared-IsCleared}
-use Rattle.written_method.proofs.BasisLaws.{length-cleared}
-use Rattle.written_method.proofs.PivotLaws.{length-pivoted, rows_of-pivoted, line_of-pivoted, line_of-other, basic_of-pivoted, basic_of-other, same_or_not}
-use Rattle.simplex_core.specs.Kept.{IsKept, shown, exchanged}
-use Rattle.simplex_core.specs.KeptRounds.{KeptState, shown_state, home_line, rough_line, rough_lines, kept_entering, kept_leaving, kept_due, next_kept, left_kept}
+use Rattle.simplex_core.proofs.Common.{◌≡◌, ℕ, zero, suc, ◌-◌, ◌<◌, ℤ, pos, ◌-ℤ◌, ◌*ℤ◌, neg_ℤ, Bool, true, false, Option, Some, None, List, [], ◌∷◌, length, get_or, set, map, arith, refl, sym, ap, ap₂, ◌∙◌, subst, if◌then◌else◌, inl, inr, add-one, ◌<ℤ◌, nat_lt, ◌==◌, ints, eq-eqb, ne_eqb, get_or-set_same, get_or-set_other, get_or-map, length-set, *ℤ_cancel, nonzero_of_pos, ring, *ℤ-one, *ℤ-zero, zero-*ℤ, is_zero, is_zero-fact, Line, entry_of, less, all_less, cleared, Tableau, line_of, basic_of, rows_of, no_line, pivoted, without_x0, Candidate, greatest_from, first_positive_from, leaving_from, State, Phase, One, Two, Due, Pivot, NoColumn, NoRow, entering, deciding_line, leaving, due, after, IsCleared, cleared-IsCleared, length-cleared, length-pivoted, rows_of-pivoted, line_of-pivoted, line_of-other, basic_of-pivoted, basic_of-other, same_or_not, IsKept, shown, exchanged, KeptState, shown_state, home_line, rough_line, rough_lines, kept_entering, kept_leaving, kept_due, next_kept, left_kept}
 use Rattle.simplex_core.proofs.PrimitiveLaws.{AreProportional}
 use Rattle.simplex_core.proofs.KeptLaws.{IsChosen, shown-exchanged, shown-last}
 use Rattle.simplex_core.proofs.ScaledChoiceLaws.{greatest-scaled, first_positive-scaled, AreSame, leaving-scaled}

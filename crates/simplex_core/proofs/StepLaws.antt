@@ -1,28 +1,7 @@
 -- A pivot that is due in a state that is reached can be made.
-use Rattle.std.proofs.Common.{◌≡◌, ◌≢◌, ℕ, zero, suc, ◌+◌, ◌-◌, ◌<◌, ◌≤◌, pos, Bool, true, false, List, [], ◌∷◌, length, get_or, set, arith, refl, sym, ap, ◌∙◌, subst, inl, inr, if◌then◌else◌}
-use Rattle.std.specs.Prelude.{◌<ℤ◌, nat_lt}
-use Rattle.std.proofs.lemmas.Bool.Decides.{nat_tests}
-use Rattle.row_core.specs.Numbers.{is_zero}
+use Rattle.simplex_core.proofs.Common.{◌≡◌, ◌≢◌, ℕ, zero, suc, ◌+◌, ◌-◌, ◌<◌, ◌≤◌, pos, Bool, true, false, List, [], ◌∷◌, length, get_or, set, arith, refl, sym, ap, ◌∙◌, subst, inl, inr, if◌then◌else◌, ◌<ℤ◌, nat_lt, nat_tests, is_zero, Place, Stopped, Width, Memory, least_right_from, any_negative, first_tableau, tableau_with, width_of, entry_of, LinearProgram, State, Phase, Start, One, Two, Pivot, degenerate_after, due, prepared, right_sides, Answer, RanOut, Tableau, line_of, basic_of, rows_of, has_x0, negated, IsLowestRow, lowest-IsLowestRow, prepared-is, prepared-positive, due-start, due-one, due-two, IsRound, round-IsRound, IsShaped-first, length-lines, length-tail, rows_of-first, IsReachedFrom, HasArtificial, basic_apart, same_or_not, set_other, IsReached, enters-below, enters-one, IsNowhere, IsRanOut}
 use Rattle.row_core.specs.Stops.{IsStop}
-use Rattle.row_core.specs.declared.place.Place.{Place}
-use Rattle.row_core.specs.declared.place.Stopped.{Stopped}
-use Rattle.row_core.specs.declared.place.Stopped.TheVariants.{Width, Memory}
-use Rattle.written_method.specs.Choices.{least_right_from}
-use Rattle.written_method.specs.FirstTableau.{any_negative, first_tableau, tableau_with, width_of}
-use Rattle.written_method.specs.Lines.{entry_of}
-use Rattle.written_method.specs.Programs.{LinearProgram}
-use Rattle.written_method.specs.Rounds.{State, Phase, Start, One, Two, Pivot, degenerate_after, due, prepared, right_sides}
-use Rattle.written_method.specs.Runs.{Answer, RanOut}
-use Rattle.written_method.specs.Tableaus.{Tableau, line_of, basic_of, rows_of, has_x0, negated}
-use Rattle.written_method.proofs.BegunLaws.{IsLowestRow, lowest-IsLowestRow, prepared-is, prepared-positive}
-use Rattle.written_method.proofs.ChosenLaws.{due-start, due-one, due-two, IsRound, round-IsRound}
-use Rattle.written_method.proofs.FirstLaws.{IsShaped-first, length-lines, length-tail, rows_of-first}
-use Rattle.written_method.proofs.PhaseLaws.{IsReachedFrom, HasArtificial, basic_apart}
-use Rattle.written_method.proofs.PivotLaws.{same_or_not, set_other}
-use Rattle.written_method.proofs.ReachedLaws.{IsReached, enters-below, enters-one}
-use Rattle.int_tableau.specs.Shapes.{IsNowhere}
-use Rattle.simplex_core.specs.Runs.{IsRanOut}
-use Rattle.simplex_core.specs.Steps.{AreThere, IsDropped, IsMove}
+use Rattle.simplex_core.specs.Steps.{IsDropped, IsMove}
 
 in_phase : State → Phase → State
 in_phase s phase = record { tableau = s.tableau; phase = phase; pivots = s.pivots; degenerate = s.degenerate }
@@ -113,18 +92,6 @@ reached-IsMove p s r c positive u d = pick s.phase refl
     pick Two h =
         let m : IsRound s r c = round-IsRound s r c (u.two h).shaped (sym (due-two s h) ∙ d) in
         move-round s r c (u.two h).shaped.lines m (prepared-two s r h) (λ k e. absurd (cc (h, k)))
-
-pub reached-AreThere : (p : LinearProgram) (s : State) → IsReached p s → AreThere s
-unfolding in_phase
-reached-AreThere p s u = pick s.phase refl
-  where
-    columns : (t : Tableau) → t ≡ tableau_with p true → 0 < t.columns
-    columns t e = omega (arith, ap (λ (k : Tableau). k.columns) e)
-
-    pick : (phase : Phase) → s.phase ≡ phase → AreThere s
-    pick Start h = subst (λ q. AreThere (in_phase s q)) (sym h) (columns s.tableau (u.start h).0)
-    pick One h = subst (λ q. AreThere (in_phase s q)) (sym h) (let w = (u.one h).0 in (omega (arith, w.lines, w.rows), omega (arith, w.columns)))
-    pick Two h = subst (λ q. AreThere (in_phase s q)) (sym h) tt
 
 -- x0 is there at first where some right side is negative
 pub has_x0-first : (p : LinearProgram) → has_x0 (first_tableau p) ≡ any_negative p.rows

@@ -1,33 +1,12 @@
 -- The values of columns and variables, one after another.
-use Rattle.std.proofs.Common.{◌≡◌, ◌≢◌, ℕ, zero, suc, ◌+◌, ◌<◌, ◌≤◌, ℤ, pos, Bool, true, false, Option, Some, None, List, [], ◌∷◌, ◌++◌, length, get_or, map, drop, arith, refl, sym, ap, ap₂, ◌∙◌, subst, inl, inr, append-nil, if◌then◌else◌}
+use Rattle.simplex_core.proofs.Common.{◌≡◌, ◌≢◌, ℕ, zero, suc, ◌+◌, ◌<◌, ◌≤◌, ℤ, pos, Bool, true, false, Option, Some, None, List, [], ◌∷◌, ◌++◌, length, get_or, map, drop, arith, refl, sym, ap, ap₂, ◌∙◌, subst, inl, inr, append-nil, if◌then◌else◌, cases_lt, ints, nat_tests, append_assoc, at_drop_all, drop_more, get_or_past, map-append, all_fit, Rational, lowest, minus, whole, first_wide, value_of, Frac, all_fit-nil, first_wide-fits, first_wide-nil, first_wide-stops, Var, Place, keys_of, IsBasic, IsShaped, as_most, width_of, Line, entry_of, Inequality, inequality_of, is_split, Tableau, basic_of, line_of, rows_of, by_variable, by_variable_steps, multipliers_from, row_of_basic, share_of, slope_of, same_or_not, column_lift, value_at_column, variable_formed, variable_value}
 use Rattle.std.specs.Prelude.{◌==◌, ◌⊎◌, ◌<ℤ◌, IfSome}
-use Rattle.std.proofs.lemmas.Bool.{cases_lt}
-use Rattle.std.proofs.lemmas.Int.{ints}
-use Rattle.std.proofs.lemmas.Bool.Decides.{nat_tests}
-use Rattle.std.proofs.lemmas.List.{append_assoc, at_drop_all, drop_more, get_or_past, map-append}
 use Rattle.exact_num.specs.Formed.{difference_formed}
-use Rattle.exact_num.specs.Range.{all_fit}
-use Rattle.exact_num.specs.Rational.{Rational, lowest, minus, whole}
-use Rattle.exact_num.specs.Steps.{first_wide}
-use Rattle.exact_num.specs.Value.{value_of}
-use Rattle.exact_num.specs.declared.fraction.Frac.{Frac}
-use Rattle.exact_num.proofs.StepLaws.{all_fit-nil, first_wide-fits, first_wide-nil, first_wide-stops}
 use Rattle.row_core.specs.declared.Row.{Row}
-use Rattle.row_core.specs.declared.Var.{Var}
-use Rattle.row_core.specs.declared.place.Place.{Place}
-use Rattle.row_core.specs.Numbers.{keys_of}
 use Rattle.row_core.specs.Plans.{valued}
 use Rattle.row_core.proofs.WritingSteps.{drop_at}
-use Rattle.written_method.specs.Basis.{IsBasic, IsShaped}
-use Rattle.written_method.specs.FirstTableau.{as_most, width_of}
-use Rattle.written_method.specs.Lines.{Line, entry_of}
-use Rattle.written_method.specs.Programs.{Inequality, inequality_of, is_split}
-use Rattle.written_method.specs.Tableaus.{Tableau, basic_of, line_of, rows_of}
-use Rattle.written_method.specs.Values.{by_variable, by_variable_steps, multipliers_from, row_of_basic, share_of, slope_of}
 use Rattle.written_method.proofs.EndValueLaws.{row_of-some}
-use Rattle.written_method.proofs.PivotLaws.{same_or_not}
 use Rattle.int_tableau.specs.Starts.{after_columns}
-use Rattle.simplex_core.specs.LastTableaus.{column_lift, value_at_column, variable_formed, variable_value}
 
 -- what a read after the last variable gives
 abbrev pub no_variable : Var

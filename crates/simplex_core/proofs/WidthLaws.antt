@@ -1,20 +1,6 @@
 -- Numbers that fit by their sizes.
-use Rattle.std.proofs.Common.{◌≡◌, ◌≢◌, ℕ, suc, ◌+◌, ◌*◌, ◌^◌, ◌<◌, ◌≤◌, ℤ, ◌-ℤ◌, ◌*ℤ◌, Bool, true, false, List, [], ◌∷◌, ◌++◌, ◌&&◌, length, get_or, take, drop, arith, refl, sym, ap, ◌∙◌, if◌then◌else◌}
-use Rattle.std.specs.Prelude.{unsigned_abs, flat_map}
-use Rattle.std.proofs.lemmas.Int.{ints, unsigned_abs-mul}
-use Rattle.std.proofs.lemmas.Nat.{mul-le}
-use Rattle.std.proofs.lemmas.List.{get_or-take, get_or-drop, length-take-le, length-drop}
-use Rattle.std.proofs.Math.Nat.{div-le_self}
+use Rattle.simplex_core.proofs.Common.{◌≡◌, ◌≢◌, ℕ, suc, ◌+◌, ◌*◌, ◌^◌, ◌<◌, ◌≤◌, ℤ, ◌-ℤ◌, ◌*ℤ◌, Bool, true, false, List, [], ◌∷◌, ◌++◌, ◌&&◌, length, get_or, take, drop, arith, refl, sym, ap, ◌∙◌, if◌then◌else◌, unsigned_abs, flat_map, ints, unsigned_abs-mul, mul-le, get_or-take, get_or-drop, length-take-le, length-drop, div-le_self, gcd_of, in_range, all_fit, unsigned_abs-int_div, in_range-yes, all_fit-nil, all_fit-cons, all_fit-append, is_zero, Line, entry_of, numbers_of, factor_of, less_formed, all_less_formed, cleared_formed, Tableau, line_of, no_line, others, pivot_formed, AllWithin}
 use Rattle.std.specs.Cmp.Derive.{both_true}
-use Rattle.exact_num.specs.Gcd.{gcd_of}
-use Rattle.exact_num.specs.Range.{in_range, all_fit}
-use Rattle.exact_num.proofs.Integers.{unsigned_abs-int_div}
-use Rattle.exact_num.proofs.RangeLaws.{in_range-yes}
-use Rattle.exact_num.proofs.StepLaws.{all_fit-nil, all_fit-cons, all_fit-append}
-use Rattle.row_core.specs.Numbers.{is_zero}
-use Rattle.written_method.specs.Lines.{Line, entry_of, numbers_of, factor_of, less_formed, all_less_formed, cleared_formed}
-use Rattle.written_method.specs.Tableaus.{Tableau, line_of, no_line, others, pivot_formed}
-use Rattle.simplex_core.specs.Widths.{AllWithin}
 
 -- ---- one number
 

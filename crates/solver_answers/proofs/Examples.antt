@@ -1,15 +1,7 @@
 -- The definitions, computed on short answers over three columns and two rows, and on near misses.
-use Rattle.std.proofs.Common.{◌≡◌, pos, negsuc, true, false, [], ◌∷◌, None, Some, refl}
-use Rattle.std.specs.Float.{Float, fin, float_is_finite, float_zero}
-use Rattle.std.specs.Prelude.{codes}
-use Rattle.std.specs.List.{count_by}
+use Rattle.solver_answers.proofs.Common.{◌≡◌, pos, negsuc, true, false, [], ◌∷◌, None, Some, refl, Float, fin, float_is_finite, float_zero, codes, count_by, Value, Passed, Blank, form_of, text_tells, number_in, place_in, whole_in, Breaks, Lacks, Gives, is_value, last_value, words}
 use Rattle.std.proofs.lemmas.Float.Parse.{parse_float_on_literals}
 use Rattle.solver_answers.specs.declared.form.Form.TheVariants.{Coin, Glpsol, Highs}
-use Rattle.solver_answers.specs.declared.found.Found.TheVariants.{Value, Passed, Blank}
-use Rattle.solver_answers.specs.Answers.{form_of, text_tells}
-use Rattle.solver_answers.specs.Numbers.{number_in, place_in, whole_in}
-use Rattle.solver_answers.specs.Told.{Breaks, Lacks, Gives, is_value, last_value}
-use Rattle.solver_answers.specs.Words.{words}
 
 abbrev ten : Float
 ten = fin false 5 (pos 1)

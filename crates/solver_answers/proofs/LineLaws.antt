@@ -1,17 +1,5 @@
 -- The lines so far, and what they make of the text.
-use Rattle.std.proofs.Common.{◌≡◌, ℕ, ◌+◌, Bool, true, false, List, [], ◌∷◌, ◌++◌, length, refl, sym, ap, ◌∙◌, subst, append_assoc, arith}
-use Rattle.std.specs.List.{AllByRecursion}
-use Rattle.std.proofs.lemmas.List.{append-nil, length-append}
-use Rattle.mps_meaning.specs.Lines.{lines}
-use Rattle.solver_answers.specs.declared.answer.Answer.TheVariants.{NoStart, Start}
-use Rattle.solver_answers.specs.declared.answer.AnswerFail.TheVariants.{Fault}
-use Rattle.solver_answers.specs.declared.form.Form.{Form}
-use Rattle.solver_answers.specs.declared.found.Found.{Found}
-use Rattle.solver_answers.specs.declared.found.Found.TheVariants.{End, Nothing, Wrong}
-use Rattle.solver_answers.specs.declared.start.StartValues.{StartValues}
-use Rattle.solver_answers.specs.Answers.{ends_with_mark, found_in, founds_in, text_tells}
-use Rattle.solver_answers.specs.Told.{AreStartValues, IsAnswer, IsFailOf, Told, Gives, told}
-use Rattle.solver_answers.specs.Words.{words}
+use Rattle.solver_answers.proofs.Common.{◌≡◌, ℕ, ◌+◌, Bool, true, false, List, [], ◌∷◌, ◌++◌, length, refl, sym, ap, ◌∙◌, subst, append_assoc, arith, AllByRecursion, append-nil, length-append, lines, NoStart, Start, Fault, Form, Found, End, Nothing, Wrong, StartValues, ends_with_mark, found_in, founds_in, text_tells, AreStartValues, IsAnswer, IsFailOf, Told, Gives, told, words}
 use Rattle.solver_answers.proofs.ToldLaws.{GoesOn, after_all, after_all-Breaks, after_all-Gives, after_all-Lacks, goes_push, told-append}
 
 -- the lines before this number, after which the reading goes on; the values are those that they give

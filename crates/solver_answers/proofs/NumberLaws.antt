@@ -1,11 +1,7 @@
 -- Whole numbers of words.
-use Rattle.std.proofs.Common.{◌≡◌, ℕ, ◌^◌, ◌<◌, Bool, true, false, ◌&&◌, ltb, ltb-true, List, [], ◌∷◌, None, Some, refl, arith}
-use Rattle.std.proofs.lemmas.Bool.{lt-ltb}
-use Rattle.std.specs.List.{list_all}
-use Rattle.std.specs.Prelude.{if◌then◌else◌}
+use Rattle.solver_answers.proofs.Common.{◌≡◌, ℕ, ◌^◌, ◌<◌, Bool, true, false, ◌&&◌, ltb, ltb-true, List, [], ◌∷◌, None, Some, refl, arith, lt-ltb, list_all, if◌then◌else◌, whole_in}
 use Rattle.std.specs.Str.Parse.{AllDigits, IsNumeral, digits_value, without_leading_plus}
 use Rattle.mps_meaning.specs.Statements.{is_digit, is_numeral}
-use Rattle.solver_answers.specs.Numbers.{whole_in}
 
 both : (a b : Bool) → (a && b) ≡ true → (a ≡ true) × (b ≡ true)
 both true b e = (refl, e)

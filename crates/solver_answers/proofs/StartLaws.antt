@@ -1,14 +1,5 @@
 -- Values to start from, and one more that is found.
-use Rattle.std.proofs.Common.{◌≡◌, ℕ, ◌+◌, ◌<◌, Bool, true, false, eqb, eqb-true, List, [], ◌∷◌, ◌++◌, length, get_or, set, replicate, Option, None, ◌⊎◌, inl, inr, refl, sym, ap, subst, ◌∙◌, arith}
-use Rattle.std.proofs.lemmas.Bool.{eqb-false}
-use Rattle.std.specs.Float.{Float, float_zero}
-use Rattle.std.specs.List.{count_by}
-use Rattle.std.specs.Prelude.{unwrap_or}
-use Rattle.std.proofs.lemmas.List.{get_or-replicate, get_or-set_other, get_or-set_same, length-replicate, length-set}
-use Rattle.solver_answers.specs.declared.found.Found.{Found}
-use Rattle.solver_answers.specs.declared.found.Found.TheVariants.{Value, Passed, Blank, Nothing, End, Wrong}
-use Rattle.solver_answers.specs.declared.start.StartValues.{StartValues}
-use Rattle.solver_answers.specs.Told.{AreStartValues, is_passed, is_value, last_value, later_or, value_in}
+use Rattle.solver_answers.proofs.Common.{◌≡◌, ℕ, ◌+◌, ◌<◌, Bool, true, false, eqb, eqb-true, List, [], ◌∷◌, ◌++◌, length, get_or, set, replicate, Option, None, ◌⊎◌, inl, inr, refl, sym, ap, subst, ◌∙◌, arith, eqb-false, Float, float_zero, count_by, unwrap_or, get_or-replicate, get_or-set_other, get_or-set_same, length-replicate, length-set, Found, Value, Passed, Blank, Nothing, End, Wrong, StartValues, AreStartValues, is_passed, is_value, last_value, later_or, value_in}
 use Rattle.solver_answers.proofs.ToldLaws.{count_push_no, count_push_yes, last_value-push}
 
 -- the values of so many variables: what `AreStartValues` says of them

@@ -1,19 +1,9 @@
 -- What CSV files tell, computed on a model with one variable, and on near misses.
-use Rattle.std.proofs.Common.{◌≡◌, ℕ, ◌<◌, zero, suc, pos, negsuc, false, List, [], ◌∷◌, Some, None, inl, inr, refl, arith}
-use Rattle.std.specs.Float.{Float, fin}
+use Rattle.solver_answers.proofs.Common.{◌≡◌, ℕ, ◌<◌, zero, suc, pos, negsuc, false, List, [], ◌∷◌, Some, None, inl, inr, refl, arith, Float, fin, codes, slice_index_or, lowest, pair, Fields, HasValue, name_of, IsEntry, header, Quotient, Value, Passed, Wrong, IsFound, TableTells, float_of_ratio, Breaks, Gives}
 use Rattle.std.specs.Float.Ieee.{add, div, mul, of_bits, of_int}
-use Rattle.std.specs.Prelude.{codes, slice_index_or}
 use Rattle.exact_num.specs.Gcd.{gcd_of, gcd_within}
 use Rattle.exact_num.specs.Range.{all_fit, in_range}
-use Rattle.exact_num.specs.Rational.{lowest, pair}
-use Rattle.plan_files.specs.Files.{Fields, HasValue, name_of}
-use Rattle.plan_files.specs.Reading.{IsEntry}
-use Rattle.plan_files.specs.Records.{header}
 use Rattle.scaled_decimals.specs.Digits.{number_of}
-use Rattle.scaled_decimals.specs.FractionText.{Quotient}
-use Rattle.solver_answers.specs.declared.found.Found.TheVariants.{Value, Passed, Wrong}
-use Rattle.solver_answers.specs.Tables.{IsFound, TableTells, float_of_ratio}
-use Rattle.solver_answers.specs.Told.{Breaks, Gives}
 
 abbrev names : List Fields
 names = (codes "NewCapacity" ∷ codes "R" ∷ [] ∷ [] ∷ codes "T" ∷ [] ∷ [] ∷ [] ∷ codes "2020" ∷ []) ∷ []

@@ -1,22 +1,9 @@
 -- The records so far, and what they make of the file.
-use Rattle.std.proofs.Common.{◌≡◌, ℕ, ◌+◌, true, false, List, [], ◌∷◌, ◌++◌, Bor, inl, inr, length, refl, sym, ap, ◌∙◌, subst, append_assoc, arith}
-use Rattle.std.specs.List.{AllByRecursion}
-use Rattle.std.specs.Prelude.{Err}
-use Rattle.std.proofs.lemmas.List.{append-nil, length-append}
+use Rattle.solver_answers.proofs.Common.{◌≡◌, ℕ, ◌+◌, true, false, List, [], ◌∷◌, ◌++◌, Bor, inl, inr, length, refl, sym, ap, ◌∙◌, subst, append_assoc, arith, AllByRecursion, Err, append-nil, length-append, Fields, HasLeft, IsAfterHeader, IsNext, header, Start, Fault, Memory, Found, Value, Passed, Blank, Nothing, End, Wrong, StartValues, AreFound, IsFound, IsHeaderFail, IsTableAnswer, IsTableFail, AreStartValues, Breaks, Gives, told}
 use Rattle.csv.specs.declared.reader.Reader.{Reader}
 use Rattle.plan_files.specs.declared.faults.PlanFail.{PlanFail}
 use Rattle.plan_files.specs.declared.faults.PlanFail.TheVariants as plan
-use Rattle.plan_files.specs.Files.{Fields}
-use Rattle.plan_files.specs.Reading.{HasLeft, IsAfterHeader, IsNext}
-use Rattle.plan_files.specs.Records.{header}
-use Rattle.solver_answers.specs.declared.answer.Answer.TheVariants.{Start}
 use Rattle.solver_answers.specs.declared.answer.AnswerFail.{AnswerFail}
-use Rattle.solver_answers.specs.declared.answer.AnswerFail.TheVariants.{Fault, Memory}
-use Rattle.solver_answers.specs.declared.found.Found.{Found}
-use Rattle.solver_answers.specs.declared.found.Found.TheVariants.{Value, Passed, Blank, Nothing, End, Wrong}
-use Rattle.solver_answers.specs.declared.start.StartValues.{StartValues}
-use Rattle.solver_answers.specs.Tables.{AreFound, IsFound, IsHeaderFail, IsTableAnswer, IsTableFail}
-use Rattle.solver_answers.specs.Told.{AreStartValues, Breaks, Gives, told}
 use Rattle.solver_answers.proofs.ToldLaws.{GoesOn, after_all-Breaks, after_all-Gives, goes_push, told-append, after_all}
 
 -- the header was read, and these records after it, each in form; the values are those that they give

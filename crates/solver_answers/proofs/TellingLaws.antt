@@ -1,21 +1,8 @@
 -- A text tells one thing.
-use Rattle.std.proofs.Common.{◌≡◌, ℕ, ◌+◌, true, false, List, [], ◌∷◌, ◌++◌, length, Option, Some, None, inl, inr, refl, sym, ap, ap₂, ◌∙◌, subst}
-use Rattle.exact_num.specs.Rational.{Rational, lowest}
+use Rattle.solver_answers.proofs.Common.{◌≡◌, ℕ, ◌+◌, true, false, List, [], ◌∷◌, ◌++◌, length, Option, Some, None, inl, inr, refl, sym, ap, ap₂, ◌∙◌, subst, Rational, lowest, HasNoHeader, variable_names, Fields, HasNoValue, HasValue, field, name_of, records_of, IsEntry, header, bottom_of, top_of, lines, Form, Found, Value, Passed, Blank, Nothing, End, Wrong, Tells, TellsIn, first_words, form_of, AreFound, IsFound, IsThrough, TableTells, float_of_ratio, Told, Breaks, Lacks, Gives, after, told}
 use Rattle.model_sets.specs.Members.{SetLists}
-use Rattle.plan_files.specs.Answers.{HasNoHeader, variable_names}
-use Rattle.plan_files.specs.Files.{Fields, HasNoValue, HasValue, field, name_of, records_of}
-use Rattle.plan_files.specs.Reading.{IsEntry}
-use Rattle.plan_files.specs.Records.{header}
 use Rattle.row_core.specs.declared.Var.{Var}
-use Rattle.scaled_decimals.specs.FractionText.{bottom_of, top_of}
 use Rattle.scaled_decimals.proofs.ValueTextLemmas.{one_value_way}
-use Rattle.mps_meaning.specs.Lines.{lines}
-use Rattle.solver_answers.specs.declared.form.Form.{Form}
-use Rattle.solver_answers.specs.declared.found.Found.{Found}
-use Rattle.solver_answers.specs.declared.found.Found.TheVariants.{Value, Passed, Blank, Nothing, End, Wrong}
-use Rattle.solver_answers.specs.Answers.{Tells, TellsIn, first_words, form_of}
-use Rattle.solver_answers.specs.Tables.{AreFound, IsFound, IsThrough, TableTells, float_of_ratio}
-use Rattle.solver_answers.specs.Told.{Told, Breaks, Lacks, Gives, after, told}
 
 -- ---- a record
 

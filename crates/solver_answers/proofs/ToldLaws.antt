@@ -1,12 +1,5 @@
 -- What lines tell, where some of them are known, and the values so far.
-use Rattle.std.proofs.Common.{◌≡◌, ℕ, suc, ◌+◌, Bool, true, false, List, [], ◌∷◌, ◌++◌, length, Option, None, Some, refl, ap, ◌∙◌, arith}
-use Rattle.std.specs.Float.{Float}
-use Rattle.std.specs.List.{AllByRecursion, count_by}
-use Rattle.std.specs.Prelude.{if◌then◌else◌}
-use Rattle.std.proofs.lemmas.List.Sums.{sum_by-append}
-use Rattle.solver_answers.specs.declared.found.Found.{Found}
-use Rattle.solver_answers.specs.declared.found.Found.TheVariants.{Value, Passed, Blank, Nothing, End, Wrong}
-use Rattle.solver_answers.specs.Told.{Told, Breaks, Lacks, Gives, after, last_value, later_or, told, value_in}
+use Rattle.solver_answers.proofs.Common.{◌≡◌, ℕ, suc, ◌+◌, Bool, true, false, List, [], ◌∷◌, ◌++◌, length, Option, None, Some, refl, ap, ◌∙◌, arith, Float, AllByRecursion, count_by, if◌then◌else◌, sum_by-append, Found, Value, Passed, Blank, Nothing, End, Wrong, Told, Breaks, Lacks, Gives, after, last_value, later_or, told, value_in}
 
 -- ---- lines
 

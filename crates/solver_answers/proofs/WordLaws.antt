@@ -1,11 +1,6 @@
 -- The first line of a text, and the first word of a line.
-use Rattle.std.proofs.Common.{◌≡◌, ℕ, suc, zero, ◌+◌, ◌<◌, ◌≤◌, true, false, not, List, [], ◌∷◌, length, get_or, take, drop, refl, sym, ap, ◌∙◌, add-one, arith}
-use Rattle.std.specs.List.{filter, onto_first, position_or_len, prefix_len, slice_split}
+use Rattle.solver_answers.proofs.Common.{◌≡◌, ℕ, suc, zero, ◌+◌, ◌<◌, ◌≤◌, true, false, not, List, [], ◌∷◌, length, get_or, take, drop, refl, sym, ap, ◌∙◌, add-one, arith, filter, onto_first, position_or_len, prefix_len, slice_split, fails_before_first, passes_at_first, prefix_len-le-length, prefix_len_passes, prefix_len_stops, get_or-drop, length-drop, ends_line, lines, with_byte, Word, is_blank, is_word, words}
 use Rattle.std.proofs.lemmas.List.Splits.{slice_split-cons_no, slice_split-cons_yes}
-use Rattle.std.proofs.lemmas.List.Sums.{fails_before_first, passes_at_first, prefix_len-le-length, prefix_len_passes, prefix_len_stops}
-use Rattle.std.proofs.lemmas.List.{get_or-drop, length-drop}
-use Rattle.mps_meaning.specs.Lines.{ends_line, lines, with_byte}
-use Rattle.solver_answers.specs.Words.{Word, is_blank, is_word, words}
 
 -- ---- lines
 

@@ -1,14 +1,9 @@
 -- The definitions, computed: on a model of two technologies T and U, of which 10 units of activity are wanted, whose best plan builds 10 of T and costs 80, with a limit of 88.
-use Rattle.row_problem.proofs.Common.{◌≡◌, ℕ, ℤ, pos, negsuc, List, [], ◌∷◌, inl, inr, refl, Some, None, ◌==◌, if◌then◌else◌, arith, ints, gcd_of, gcd_within, lowest, minus, order_of, plus, times, whole, Var, NEW_CAPACITY, TOTAL_DISCOUNTED_COST, CostRow, Expand, gathered, written_entries, written_right, weight_of, One, Least, Greatest, SPAN, span_name, Values}
+use Rattle.span_finder.proofs.Common.{◌≡◌, ℕ, ℤ, pos, negsuc, List, [], ◌∷◌, inl, inr, refl, Some, None, ◌==◌, if◌then◌else◌, arith, ints, gcd_of, gcd_within, lowest, minus, order_of, plus, times, whole, Var, NEW_CAPACITY, TOTAL_DISCOUNTED_COST, CostRow, Expand, gathered, written_entries, written_right, weight_of, One, Least, Greatest, SPAN, span_name, Values, HasNoBound, HasOptimum, IsPivotDue, IsWide, Budget, Trial, Width, CostsAtMost, cost_terms, LieWithin, measure_of, slack_limit}
 use Rattle.row_core.specs.declared.place.Place.TheVariants.{Row}
 use Rattle.certified_answers.specs.declared.answers.NoAnswer.TheVariants as answers
-use Rattle.exact_solver.specs.MethodEnds.{HasNoBound, HasOptimum, IsPivotDue, IsWide}
-use Rattle.simplex_core.specs.declared.stops.Stop.TheVariants.{Budget, Trial, Width}
 use Rattle.simplex_core.specs.declared.stops.TrialStop.TheVariants as trials
 use Rattle.span_finder.specs.declared.found.SpanFail.TheVariants.{Memory, Stopped}
-use Rattle.span_finder.specs.LimitRows.{CostsAtMost, cost_terms}
-use Rattle.span_finder.specs.RoundedSpans.{LieWithin, measure_of}
-use Rattle.span_finder.specs.Slacks.{slack_limit}
 use Rattle.span_finder.specs.SpanEnds.{IsBounded, IsNothing, IsPlainStop, IsRising, IsStopped, IsTrialFail, StopsAt, end_seen, greatest_end, least_end, unless_stopped}
 
 -- a variable of a kind, of this technology

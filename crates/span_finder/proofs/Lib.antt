@@ -1,3 +1,4 @@
+mod Common
 pub mod LimitLaws
 pub mod LimitSteps
 pub mod LimitedLaws

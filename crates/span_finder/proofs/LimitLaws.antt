@@ -1,7 +1,6 @@
 -- What the row that limits the cost says, and which variables it has.
-use Rattle.row_problem.proofs.Common.{◌≡◌, ℕ, ℤ, pos, ◌+ℤ◌, ◌*ℤ◌, List, [], ◌∷◌, ◌⊎◌, inl, inr, ap, ◌∙◌, subst, arith, ◌↔◌, ◌<ℤ◌, Result, Ok, Err, IfOk, ints, Ordering, Less, Greater, Rational, plus, ring, zero-*ℤ, Row, Most, Var, Stopped, is_zero, variables_of, var_cmp, RowHolds, Stands, gathered, gathered_onto, with_term, IsSumOver, SaysTheSame, kept, written_entries, written_right, IsOver-one, IsOver-own, IsSumOver-gathered, cost_of, model_cost, Has, span_name, Values, by_test}
+use Rattle.span_finder.proofs.Common.{◌≡◌, ℕ, ℤ, pos, ◌+ℤ◌, ◌*ℤ◌, List, [], ◌∷◌, ◌⊎◌, inl, inr, ap, ◌∙◌, subst, arith, ◌↔◌, ◌<ℤ◌, Result, Ok, Err, IfOk, ints, Ordering, Less, Greater, Rational, plus, ring, zero-*ℤ, Row, Most, Var, Stopped, is_zero, variables_of, var_cmp, RowHolds, Stands, gathered, gathered_onto, with_term, IsSumOver, SaysTheSame, kept, written_entries, written_right, IsOver-one, IsOver-own, IsSumOver-gathered, cost_of, model_cost, Has, span_name, Values, by_test, CostsAtMost, IsLimitRow, cost_terms, is_cost}
 use Rattle.std.specs.declared.cmp.Ordering.TheVariants.{Equal as Alike}
-use Rattle.span_finder.specs.LimitRows.{CostsAtMost, IsLimitRow, cost_terms, is_cost}
 
 -- ---- what it says
 

@@ -1,7 +1,6 @@
 -- The terms of the row that limits the cost, one variable after another.
-use Rattle.row_problem.proofs.Common.{◌≡◌, ℕ, ◌+◌, ◌<◌, ◌≤◌, ℤ, Bool, true, false, ◌&&◌, List, ◌∷◌, ◌++◌, length, get_or, drop, refl, sym, ap, ◌∙◌, if◌then◌else◌, at_drop_all, drop_more, all_fit, all_fit-append, all_fit-nil, Var, Place, Stopped, IsStop, gathered, gathered_formed, gathered_formed_onto, gathered_onto, term_formed, with_term, Values, by_test}
+use Rattle.span_finder.proofs.Common.{◌≡◌, ℕ, ◌+◌, ◌<◌, ◌≤◌, ℤ, Bool, true, false, ◌&&◌, List, ◌∷◌, ◌++◌, length, get_or, drop, refl, sym, ap, ◌∙◌, if◌then◌else◌, at_drop_all, drop_more, all_fit, all_fit-append, all_fit-nil, Var, Place, Stopped, IsStop, gathered, gathered_formed, gathered_formed_onto, gathered_onto, term_formed, with_term, Values, by_test, cost_term, cost_terms, is_cost}
 use Rattle.row_core.specs.declared.place.Stopped.TheVariants.{Width, Memory}
-use Rattle.span_finder.specs.LimitRows.{cost_term, cost_terms, is_cost}
 
 -- ---- parts of what is formed
 

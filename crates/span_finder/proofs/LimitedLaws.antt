@@ -1,5 +1,5 @@
 -- Rows with the row that limits the cost after them are a problem where those rows are; and plans meet them that are near the best, and no others.
-use Rattle.row_problem.proofs.Common.{◌≡◌, ℕ, ◌+◌, ◌<◌, ℤ, pos, ◌*ℤ◌, true, false, not, ◌&&◌, List, [], ◌∷◌, ◌++◌, ◌⊎◌, inl, inr, length, map, refl, sym, ap, ap₂, ◌∙◌, subst, arith, append-nil, Option, Some, None, ◌<ℤ◌, ◌≤ℤ◌, Contains, IsTrue, flat_map, Less, is_lt, length-append, length-map, map-append, all_fit, Rational, Row, RowName, Equal, Most, Var, SPAN, RowContents, contents_of, kind_is_free, ascends, variables_of, index_cmp, row_name_cmp, AreVariablesOf, entry_variables, names_of, RowHolds, number_at, both_passed, Contains-from_Has, Has, Has-append_left, Has-from_Contains, Has-map, append_parts, map_parts, AreTriangular, Definition, avoids, defined, definitions_of, is_among, others_of, rows_of, cost_variable, AllStand, MeetsAll, KeepSigns, only_raises, HaveNone, IsProblem, IsRepeatedBy}
+use Rattle.span_finder.proofs.Common.{◌≡◌, ℕ, ◌+◌, ◌<◌, ℤ, pos, ◌*ℤ◌, true, false, not, ◌&&◌, List, [], ◌∷◌, ◌++◌, ◌⊎◌, inl, inr, length, map, refl, sym, ap, ap₂, ◌∙◌, subst, arith, append-nil, Option, Some, None, ◌<ℤ◌, ◌≤ℤ◌, Contains, IsTrue, flat_map, Less, is_lt, length-append, length-map, map-append, all_fit, Rational, Row, RowName, Equal, Most, Var, SPAN, RowContents, contents_of, kind_is_free, ascends, variables_of, index_cmp, row_name_cmp, AreVariablesOf, entry_variables, names_of, RowHolds, number_at, both_passed, Contains-from_Has, Has, Has-append_left, Has-from_Contains, Has-map, append_parts, map_parts, AreTriangular, Definition, avoids, defined, definitions_of, is_among, others_of, rows_of, cost_variable, AllStand, MeetsAll, KeepSigns, only_raises, HaveNone, IsProblem, IsRepeatedBy, HasLimitRow, IsLimitRow, limit_formed, HasNearBest, HasPlan, IsNearBest}
 use Rattle.std.specs.List.{AllByRecursion}
 use Rattle.std.specs.Ordering.{ordering_then}
 use Rattle.std.proofs.lemmas.Grind.{flat_map-append}
@@ -7,8 +7,6 @@ use Rattle.std.proofs.lemmas.List.Folds.{flat_map-map}
 use Rattle.std.proofs.lemmas.Simd.{map-map}
 use Rattle.exact_num.proofs.OrderLaws.{nat_cmp-less}
 use Rattle.row_problem.proofs.CopiedRows.{copied-stand}
-use Rattle.span_finder.specs.LimitRows.{HasLimitRow, IsLimitRow, limit_formed}
-use Rattle.span_finder.specs.Spans.{HasNearBest, HasPlan, IsNearBest}
 use Rattle.span_finder.proofs.LimitLaws.{limit-has}
 
 -- ---- a row more, which defines nothing

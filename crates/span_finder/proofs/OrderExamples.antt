@@ -1,11 +1,7 @@
 -- The order of the trials and of what each of them carries back and checks: where numbers of two steps don't fit, the place of the first is told. And the numbers of the limit.
-use Rattle.row_problem.proofs.Common.{◌≡◌, ℕ, ◌-◌, ◌^◌, ℤ, pos, negsuc, neg_ℤ, List, [], ◌∷◌, refl, Vec, Some, None, difference_formed, product_formed, quotient_formed, sum_formed, gcd_of, gcd_within, all_fit, in_range, Rational, divided, lowest, minus, order_of, pair, plus, times, whole, first_wide, Row, RowName, Var, CAA2, CAA4, NCC1, NCC2, NEW_CAPACITY, RATE_OF_ACTIVITY, TOTAL_CAPACITY_ANNUAL, Check, Column, LiftDirection, LiftMultiplier, LiftPlan, answer, answer_of, run, made_row, One, Goal, Least, Greatest, carried_direction, carried_multipliers, carried_plan, carrying_steps, direction_steps, plan_steps, program_left}
+use Rattle.span_finder.proofs.Common.{◌≡◌, ℕ, ◌-◌, ◌^◌, ℤ, pos, negsuc, neg_ℤ, List, [], ◌∷◌, refl, Vec, Some, None, difference_formed, product_formed, quotient_formed, sum_formed, gcd_of, gcd_within, all_fit, in_range, Rational, divided, lowest, minus, order_of, pair, plus, times, whole, first_wide, Row, RowName, Var, CAA2, CAA4, NCC1, NCC2, NEW_CAPACITY, RATE_OF_ACTIVITY, TOTAL_CAPACITY_ANNUAL, Check, Column, LiftDirection, LiftMultiplier, LiftPlan, answer, answer_of, run, made_row, One, Goal, Least, Greatest, carried_direction, carried_multipliers, carried_plan, carrying_steps, direction_steps, plan_steps, program_left, Trial, MethodEnd, HasOptimum, IsWide, unbounded_end, optimal_end, solved_end, slack_formed, IsBounded, IsStopped, both_trials, spanned}
 use Rattle.row_core.specs.declared.Sense.TheVariants as senses
-use Rattle.simplex_core.specs.declared.stops.Stop.TheVariants.{Trial}
 use Rattle.simplex_core.specs.declared.stops.TrialStop.TheVariants as trials
-use Rattle.exact_solver.specs.MethodEnds.{MethodEnd, HasOptimum, IsWide, unbounded_end, optimal_end, solved_end}
-use Rattle.span_finder.specs.Slacks.{slack_formed}
-use Rattle.span_finder.specs.SpanEnds.{IsBounded, IsStopped, both_trials, spanned}
 
 -- the variable, and the row, of this number at the first members
 abbrev of_kind : ℕ → Var

@@ -1,14 +1,8 @@
 -- Where the elimination of rows fits, that of the rows with the limit after them stops only at the row that limits the cost.
-use Rattle.row_problem.proofs.Common.{◌≡◌, ℕ, pos, List, [], ◌∷◌, ◌++◌, inl, inr, length, map, refl, sym, ap, ap₂, ◌∙◌, subst, Option, Some, None, Result, Ok, Err, IfErr, option_or, all_fit, Rational, whole, Step, first_wide, first_wide-append, Row, Var, Place, CostRow, Expand, RowContents, contents_of, span_name, Form, Definition, definitions_of, others_of, cost_variable, cost_variables, definition_steps, elimination_steps, expanded_all, minus_one_at, row_steps, unscaled, with_cost_variable, One, Least, Greatest, Values, by_test}
+use Rattle.span_finder.proofs.Common.{◌≡◌, ℕ, pos, List, [], ◌∷◌, ◌++◌, inl, inr, length, map, refl, sym, ap, ap₂, ◌∙◌, subst, Option, Some, None, Result, Ok, Err, IfErr, option_or, all_fit, Rational, whole, Step, first_wide, first_wide-append, Row, Var, Place, CostRow, Expand, RowContents, contents_of, span_name, Form, Definition, definitions_of, others_of, cost_variable, cost_variables, definition_steps, elimination_steps, expanded_all, minus_one_at, row_steps, unscaled, with_cost_variable, One, Least, Greatest, Values, by_test, MethodEnd, HasOptimum, HasNoPlan, HasNoBound, IsPivotDue, IsWide, solved_end, Budget, Trial, Width, HasLimitRow, IsBounded, IsNothing, IsPlainStop, IsRising, IsStopped, SpanEnd, Stops, both_trials, greatest_end, least_end, Span, SpanFail}
 use Rattle.std.specs.Prelude.{⊤}
 use Rattle.written_method.specs.Expanded.{expanded, expanded_formed}
-use Rattle.exact_solver.specs.MethodEnds.{MethodEnd, HasOptimum, HasNoPlan, HasNoBound, IsPivotDue, IsWide, solved_end}
 use Rattle.simplex_core.specs.declared.stops.Stop.{Stop}
-use Rattle.simplex_core.specs.declared.stops.Stop.TheVariants.{Budget, Trial, Width}
-use Rattle.span_finder.specs.LimitRows.{HasLimitRow}
-use Rattle.span_finder.specs.SpanEnds.{IsBounded, IsNothing, IsPlainStop, IsRising, IsStopped, SpanEnd, Stops, both_trials, greatest_end, least_end}
-use Rattle.span_finder.specs.declared.found.Span.{Span}
-use Rattle.span_finder.specs.declared.found.SpanFail.{SpanFail}
 use Rattle.span_finder.specs.declared.found.SpanFail.TheVariants as fails
 use Rattle.span_finder.proofs.LimitedLaws.{copied, definitions-last, others-last, said}
 use Rattle.span_finder.proofs.SpanLaws.{spanned-wide, trials-from}

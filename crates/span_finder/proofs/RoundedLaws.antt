@@ -1,10 +1,5 @@
 -- What the ends that the rounded method finds are worth: no plan passes them, neither of the rows with the limit's, nor near the best.
-use Rattle.row_problem.proofs.Common.{◌≡◌, ℕ, pos, ◌*ℤ◌, Bool, true, false, List, arith, if◌then◌else◌, Result, Ok, Err, IfOk, int_lt, ◌≤ℤ◌, ints, Rational, whole, value_of, *ℤ-one, zero-*ℤ, Row, Var, kind_is_free, ascends, var_cmp, Has, BoundsAll, weight_of, One, Goal, Least, Greatest, Values}
-use Rattle.span_finder.specs.LimitRows.{HasLimitRow}
-use Rattle.span_finder.specs.RoundedSpans.{IsRoundedSpan}
-use Rattle.span_finder.specs.RoundedTrials.{AreRoundedEnds, IsEndNear, end_of}
-use Rattle.span_finder.specs.Spans.{IsNearPlan}
-use Rattle.span_finder.specs.Trials.{NonePasses}
+use Rattle.span_finder.proofs.Common.{◌≡◌, ℕ, pos, ◌*ℤ◌, Bool, true, false, List, arith, if◌then◌else◌, Result, Ok, Err, IfOk, int_lt, ◌≤ℤ◌, ints, Rational, whole, value_of, *ℤ-one, zero-*ℤ, Row, Var, kind_is_free, ascends, var_cmp, Has, BoundsAll, weight_of, One, Goal, Least, Greatest, Values, HasLimitRow, IsRoundedSpan, AreRoundedEnds, IsEndNear, end_of, IsNearPlan, NonePasses}
 use Rattle.span_finder.specs.declared.found.RoundedSpan.{RoundedSpan}
 use Rattle.span_finder.proofs.LimitedLaws.{near-from, near-to}
 use Rattle.span_finder.proofs.ValueLaws.{bound-passes, least-from_zero}

@@ -1,8 +1,6 @@
 -- A plan of the least cost costs at most the limit.
-use Rattle.row_problem.proofs.Common.{◌≡◌, ℕ, ℤ, pos, ◌+ℤ◌, ◌*ℤ◌, true, List, sym, ap, ◌∙◌, subst, arith, ◌<ℤ◌, ◌≤ℤ◌, Result, Ok, Err, IfOk, is_ok, unsigned_abs, ints, product_formed, sum_formed, all_fit, Rational, lowest, plus, value_of, Frac, *ℤ_nonnegative, *ℤ_pos, ≤ℤ_cancel, *ℤ_comm, products, ring, Row, Var, IsOver, IsOver-multiplied, IsOver-own, IsOver-plus, IsOver-ratio, IsOver-times, cost_of, model_cost, absolute, IsPlan, Values}
+use Rattle.span_finder.proofs.Common.{◌≡◌, ℕ, ℤ, pos, ◌+ℤ◌, ◌*ℤ◌, true, List, sym, ap, ◌∙◌, subst, arith, ◌<ℤ◌, ◌≤ℤ◌, Result, Ok, Err, IfOk, is_ok, unsigned_abs, ints, product_formed, sum_formed, all_fit, Rational, lowest, plus, value_of, Frac, *ℤ_nonnegative, *ℤ_pos, ≤ℤ_cancel, *ℤ_comm, products, ring, Row, Var, IsOver, IsOver-multiplied, IsOver-own, IsOver-plus, IsOver-ratio, IsOver-times, cost_of, model_cost, absolute, IsPlan, Values, slack_formed, slack_limit, slack_of, HasNearBest}
 use Rattle.exact_num.specs.declared.range.TooWide.{TooWide}
-use Rattle.span_finder.specs.Slacks.{slack_formed, slack_limit, slack_of}
-use Rattle.span_finder.specs.Spans.{HasNearBest}
 use Rattle.span_finder.proofs.LimitSteps.{fits-first}
 
 -- c over q is at most the limit, which is t times c and q times w, over t times q

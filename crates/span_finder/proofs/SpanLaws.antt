@@ -1,14 +1,6 @@
 -- The two trials over rows of which the last limits the cost: what they come to.
-use Rattle.row_problem.proofs.Common.{◌≡◌, ℕ, pos, true, List, [], ◌∷◌, ◌++◌, inl, inr, sym, ap, ◌∙◌, subst, Option, Some, None, Result, Ok, Err, IfOk, IfErr, ◌*ℤ◌, ◌≤ℤ◌, all_fit, Rational, first_wide, value_of, Frac, Row, Var, Place, Stopped, span_name, ascends, var_cmp, value_in, IsStop, Has-from_Contains, elimination_steps, IsFirst, One, Least, Greatest, Values}
+use Rattle.span_finder.proofs.Common.{◌≡◌, ℕ, pos, true, List, [], ◌∷◌, ◌++◌, inl, inr, sym, ap, ◌∙◌, subst, Option, Some, None, Result, Ok, Err, IfOk, IfErr, ◌*ℤ◌, ◌≤ℤ◌, all_fit, Rational, first_wide, value_of, Frac, Row, Var, Place, Stopped, span_name, ascends, var_cmp, value_in, IsStop, Has-from_Contains, elimination_steps, IsFirst, One, Least, Greatest, Values, solved_end, Width, HasLimitRow, limit_formed, EndsSo, IsStopped, SpanEnd, Stops, StopsAt, both_trials, greatest_end, least_end, plain_fail, span_seen, spanned, unless_stopped, IsHighEnd, IsNearPlan, IsSpan, AreFound, IsCapacityOf, IsExtreme, IsHighFound, Span, SpanFail}
 use Rattle.row_core.specs.declared.place.Stopped.TheVariants as parts
-use Rattle.exact_solver.specs.MethodEnds.{solved_end}
-use Rattle.simplex_core.specs.declared.stops.Stop.TheVariants.{Width}
-use Rattle.span_finder.specs.LimitRows.{HasLimitRow, limit_formed}
-use Rattle.span_finder.specs.SpanEnds.{EndsSo, IsStopped, SpanEnd, Stops, StopsAt, both_trials, greatest_end, least_end, plain_fail, span_seen, spanned, unless_stopped}
-use Rattle.span_finder.specs.Spans.{IsHighEnd, IsNearPlan, IsSpan}
-use Rattle.span_finder.specs.Trials.{AreFound, IsCapacityOf, IsExtreme, IsHighFound}
-use Rattle.span_finder.specs.declared.found.Span.{Span}
-use Rattle.span_finder.specs.declared.found.SpanFail.{SpanFail}
 use Rattle.span_finder.specs.declared.found.SpanFail.TheVariants as fails
 use Rattle.span_finder.proofs.LimitedLaws.{near-from, near-to}
 use Rattle.span_finder.proofs.ValueLaws.{always-more}

@@ -1,10 +1,8 @@
 -- What the exact method proves of the value of one variable.
-use Rattle.row_problem.proofs.Common.{◌≡◌, ℕ, ℤ, pos, negsuc, neg_ℤ, ◌*ℤ◌, true, false, ◌&&◌, List, [], ◌∷◌, inl, inr, refl, sym, ap, ◌∙◌, subst, arith, Contains, Option, filter, nat_lt, ◌==◌, ◌<ℤ◌, ◌≤ℤ◌, ◌||◌, ints, Rational, value_of, Frac, neg_ℤ-*ℤ, one-*ℤ, zero-*ℤ, Row, Var, NEW_CAPACITY, RATE_OF_ACTIVITY, TRADE, kind_is_free, ascends, keys_of, var_cmp, value_in, Contains-from_Has, Has, Has-filter, Has-from_Contains, Reduced, is_column, BoundsAll, cost_of, HaveRightSigns, IsRight, MeetsAll, IsComplete, IsProvedFor, weight_of, IsDescentFor, IsPlan, Certified, Optimal, Unbounded, Cost, One, Goal, Least, Greatest, IsProgramOf, Values, Multipliers}
+use Rattle.span_finder.proofs.Common.{◌≡◌, ℕ, ℤ, pos, negsuc, neg_ℤ, ◌*ℤ◌, true, false, ◌&&◌, List, [], ◌∷◌, inl, inr, refl, sym, ap, ◌∙◌, subst, arith, Contains, Option, filter, nat_lt, ◌==◌, ◌<ℤ◌, ◌≤ℤ◌, ◌||◌, ints, Rational, value_of, Frac, neg_ℤ-*ℤ, one-*ℤ, zero-*ℤ, Row, Var, NEW_CAPACITY, RATE_OF_ACTIVITY, TRADE, kind_is_free, ascends, keys_of, var_cmp, value_in, Contains-from_Has, Has, Has-filter, Has-from_Contains, Reduced, is_column, BoundsAll, cost_of, HaveRightSigns, IsRight, MeetsAll, IsComplete, IsProvedFor, weight_of, IsDescentFor, IsPlan, Certified, Optimal, Unbounded, Cost, One, Goal, Least, Greatest, IsProgramOf, Values, Multipliers, end_seen, solved_end, IsCapacityOf, IsExtreme, IsRise, IsTrial, NonePasses}
 use Rattle.row_problem.specs.declared.problem.Problem.{Problem}
 use Rattle.certified_answers.specs.Answers.{turned}
 use Rattle.row_problem.proofs.CostLaws.{cost-is}
-use Rattle.exact_solver.specs.MethodEnds.{end_seen, solved_end}
-use Rattle.span_finder.specs.Trials.{IsCapacityOf, IsExtreme, IsRise, IsTrial, NonePasses}
 
 -- ---- the cost that is one variable's value
 

@@ -1,9 +1,5 @@
 -- Rows that are kept or dropped are kept or passed over.
-use Rattle.std.proofs.Common.{List, [], ◌∷◌, inl, inr}
-use Rattle.exact_num.specs.declared.fraction.Frac.{Frac}
-use Rattle.row_core.specs.declared.Row.{Row}
-use Rattle.variable_elimination.specs.Eliminations.{AreAmongReductions}
-use Rattle.variable_elimination.specs.ReducedRows.{AreReductions}
+use Rattle.variable_elimination.proofs.Common.{List, [], ◌∷◌, inl, inr, Frac, Row, AreAmongReductions, AreReductions}
 
 pub among-all : (definitions named rows : List Row) (scales : List Frac) → AreReductions definitions named rows scales → AreAmongReductions definitions named rows scales
 among-all definitions [] rows scales h = h

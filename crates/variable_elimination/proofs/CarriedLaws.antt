@@ -1,19 +1,5 @@
 -- Multipliers of named rows that give each defined variable's column its coefficient: the other columns and the bound are those of the reduced rows and of the row of the cost. What differs would be linear in the numbers of a plan, and is 0 of each that meets the definitions.
-use Rattle.std.proofs.Common.{◌≡◌, ℕ, suc, ℤ, pos, neg_ℤ, ◌+ℤ◌, ◌-ℤ◌, ◌*ℤ◌, true, List, [], ◌∷◌, length, refl, sym, ap, ap₂, ◌∙◌, subst, arith}
-use Rattle.std.specs.Prelude.{Option, Some, None, ◌<ℤ◌}
-use Rattle.std.proofs.lemmas.Int.{ints}
-use Rattle.exact_num.proofs.Integers.{*ℤ_cancel, nonzero_of_pos}
-use Rattle.exact_num.proofs.Ring.{ring, products, zero-*ℤ, *ℤ-zero, *ℤ_comm, neg_ℤ-*ℤ}
-use Rattle.row_core.specs.declared.Row.{Row}
-use Rattle.row_core.specs.declared.RowName.{RowName}
-use Rattle.row_core.specs.declared.Var.{Var}
-use Rattle.row_core.specs.Rows.{number_at, row_sum}
-use Rattle.row_core.specs.Values.{alone}
-use Rattle.row_core.proofs.MeaningLaws.{row_sum-alone}
-use Rattle.written_method.specs.Definitions.{Definition, definitions_of, others_of, rows_of, defined, is_among, AreTriangular}
-use Rattle.variable_elimination.specs.Certified.{weighted, column_sum, bound_of}
-use Rattle.variable_elimination.specs.Meaning.{excess, AreMet}
-use Rattle.variable_elimination.specs.Reductions.{multiples_of}
+use Rattle.variable_elimination.proofs.Common.{◌≡◌, ℕ, suc, ℤ, pos, neg_ℤ, ◌+ℤ◌, ◌-ℤ◌, ◌*ℤ◌, true, List, [], ◌∷◌, length, refl, sym, ap, ap₂, ◌∙◌, subst, arith, Option, Some, None, ◌<ℤ◌, ints, *ℤ_cancel, nonzero_of_pos, ring, products, zero-*ℤ, *ℤ-zero, *ℤ_comm, neg_ℤ-*ℤ, Row, RowName, Var, number_at, row_sum, alone, row_sum-alone, Definition, definitions_of, others_of, rows_of, defined, is_among, AreTriangular, weighted, column_sum, bound_of, excess, AreMet, multiples_of}
 use Rattle.variable_elimination.proofs.LiftLaws.{minus-is, met_by_some}
 use Rattle.variable_elimination.proofs.LinearLaws.{IsLinear, linear-row, linear-zero, linear-plus, linear-times, linear-homogeneous, linear-nothing, linear-depends}
 

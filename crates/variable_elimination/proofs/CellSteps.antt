@@ -1,24 +1,6 @@
 -- Columns of rows, row by row and entry by entry.
-use Rattle.std.proofs.Common.{◌≡◌, cond, ℕ, zero, suc, ◌+◌, ◌<◌, ℤ, Bool, true, false, ◌||◌, List, [], ◌∷◌, ◌++◌, map, filter, length, get_or, take, refl, sym, ap, ◌∙◌, subst, arith, if◌then◌else◌}
-use Rattle.std.specs.Prelude.{Option, Some, None}
-use Rattle.std.specs.BTreeMap.{BTreeMap, get}
-use Rattle.std.specs.Cmp.Derive.{both_true}
+use Rattle.variable_elimination.proofs.Common.{◌≡◌, cond, ℕ, zero, suc, ◌+◌, ◌<◌, ℤ, Bool, true, false, ◌||◌, List, [], ◌∷◌, ◌++◌, map, filter, length, get_or, take, refl, sym, ap, ◌∙◌, subst, arith, if◌then◌else◌, Option, Some, None, BTreeMap, get, both_true, is_eq, take_more, flat_map-cons, in_range, all_fit, all_fit-append, all_fit-cons, all_fit-nil, Row, RowName, Var, row_in_column, column_of, numbers_of, var_cmp, both_passed, row_fits, var_cmp_exact, items_of, cells_at, is_given, AreEmpty, IsNextEmpty, AreFollowed, HaveColumns, cell_in}
 use Rattle.std.specs.Global.{Vec}
-use Rattle.std.specs.Ordering.{is_eq}
-use Rattle.std.proofs.lemmas.List.{take_more}
-use Rattle.std.proofs.lemmas.List.Concat.{flat_map-cons}
-use Rattle.exact_num.specs.Range.{in_range, all_fit}
-use Rattle.exact_num.proofs.StepLaws.{all_fit-append, all_fit-cons, all_fit-nil}
-use Rattle.row_core.specs.declared.Row.{Row}
-use Rattle.row_core.specs.declared.RowName.{RowName}
-use Rattle.row_core.specs.declared.Var.{Var}
-use Rattle.row_core.specs.Columns.{row_in_column, column_of}
-use Rattle.row_core.specs.Numbers.{numbers_of}
-use Rattle.row_core.specs.Order.{var_cmp}
-use Rattle.row_core.proofs.AscendingLaws.{both_passed}
-use Rattle.row_core.proofs.CombinedLaws.{row_fits}
-use Rattle.row_core.proofs.Orders.{var_cmp_exact}
-use Rattle.variable_elimination.specs.Cells.{items_of, cells_at, is_given, AreEmpty, IsNextEmpty, AreFollowed, HaveColumns, cell_in}
 use Rattle.variable_elimination.proofs.LiftLaws.{alike}
 use Rattle.variable_elimination.proofs.VariableLaws.{itself, turned}
 

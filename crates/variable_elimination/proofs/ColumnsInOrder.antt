@@ -1,21 +1,8 @@
 -- The freely chosen variables of rows, sorted and without those that repeat, ascend strictly and are the same variables.
-use Rattle.std.proofs.Common.{◌≡◌, true, List, Bool, refl, ap, sym, ◌∙◌, subst}
-use Rattle.std.specs.Cmp.{IsEquivalence}
-use Rattle.std.specs.declared.cmp.Ordering.{Ordering}
+use Rattle.variable_elimination.proofs.Common.{◌≡◌, true, List, Bool, refl, ap, sym, ◌∙◌, subst, IsEquivalence, Ordering, Contains, dedup, IsPermutation, IsSorted, eq_by_cmp, is_eq, Contains-permutation, IsPermutation-sym, Row, Var, ascends, var_cmp, var_cmp_exact, var_cmp_total, column_entries, AreColumns}
 use Rattle.std.specs.declared.cmp.Ordering.TheVariants.{Less, Equal, Greater}
-use Rattle.std.specs.List.{Contains, dedup}
-use Rattle.std.specs.List.Sorted.{IsPermutation, IsSorted}
-use Rattle.std.specs.Ordering.{eq_by_cmp, is_eq}
 use Rattle.std.proofs.lemmas.List.Kept.{Contains-dedup, Contains-from_dedup, IsStrictlySortedBy-dedup}
-use Rattle.std.proofs.lemmas.List.Sorted.{Contains-permutation, IsPermutation-sym}
 use Rattle.std.proofs.lemmas.Cmp.{eq_by_cmp_equiv}
-use Rattle.row_core.specs.declared.Row.{Row}
-use Rattle.row_core.specs.declared.Var.{Var}
-use Rattle.row_core.specs.Numbers.{ascends}
-use Rattle.row_core.specs.Order.{var_cmp}
-use Rattle.row_core.proofs.Orders.{var_cmp_exact, var_cmp_total}
-use Rattle.written_method.specs.Eliminated.{column_entries}
-use Rattle.variable_elimination.specs.Columns.{AreColumns}
 use Rattle.variable_elimination.proofs.ValueSteps.{ascends-from_sorted}
 
 -- a test that is true just of variables that the order doesn't tell apart

@@ -1,15 +1,6 @@
 -- The row of the cost at first keeps what a row keeps.
-use Rattle.std.proofs.Common.{◌≡◌, ℕ, ◌<◌, ◌≤◌, ℤ, pos, true, List, [], ◌∷◌, ◌++◌, map, refl, sym, ap, ◌∙◌, arith}
-use Rattle.std.proofs.Common.{◌+◌, length, get_or, take}
-use Rattle.std.proofs.lemmas.List.{take_more}
-use Rattle.std.specs.Cmp.Derive.{both_true}
-use Rattle.std.specs.Ordering.{is_lt, nat_cmp, ordering_then}
+use Rattle.variable_elimination.proofs.Common.{◌≡◌, ℕ, ◌<◌, ◌≤◌, ℤ, pos, true, List, [], ◌∷◌, ◌++◌, map, refl, sym, ap, ◌∙◌, arith, ◌+◌, length, get_or, take, take_more, both_true, is_lt, nat_cmp, ordering_then, Var, keys_of, numbers_of, before_first, ascends, none_zero, all_in_range, IsLowest, var_cmp, index_cmp, cost_variable, minus_one_at, AllAreCosts}
 use Rattle.std.proofs.lemmas.Nat.Gcd.{le_of_dvd}
-use Rattle.row_core.specs.declared.Var.{Var}
-use Rattle.row_core.specs.Numbers.{keys_of, numbers_of, before_first, ascends, none_zero, all_in_range, IsLowest}
-use Rattle.row_core.specs.Order.{var_cmp, index_cmp}
-use Rattle.written_method.specs.Eliminated.{cost_variable, minus_one_at}
-use Rattle.variable_elimination.specs.CostRows.{AllAreCosts}
 
 pub keys-minus : (vs : List Var) → keys_of (map minus_one_at vs) ≡ vs
 keys-minus [] = refl

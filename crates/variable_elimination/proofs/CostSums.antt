@@ -1,31 +1,6 @@
 -- The cost of numbers that meet the definitions, by the row of the cost; and its coefficients.
-use Rattle.std.proofs.Common.{◌≡◌, ℤ, pos, negsuc, neg_ℤ, ◌+ℤ◌, ◌-ℤ◌, ◌*ℤ◌, Bool, true, false, ◌&&◌, ◌||◌, List, [], ◌∷◌, map, length, refl, sym, ap, ap₂, ◌∙◌, subst, arith, if◌then◌else◌}
-use Rattle.std.specs.Prelude.{Option, Some, None, ◌==◌}
-use Rattle.std.specs.Ordering.{is_eq}
-use Rattle.std.specs.declared.cmp.Ordering.{Ordering}
+use Rattle.variable_elimination.proofs.Common.{◌≡◌, ℤ, pos, negsuc, neg_ℤ, ◌+ℤ◌, ◌-ℤ◌, ◌*ℤ◌, Bool, true, false, ◌&&◌, ◌||◌, List, [], ◌∷◌, map, length, refl, sym, ap, ap₂, ◌∙◌, subst, arith, if◌then◌else◌, Option, Some, None, ◌==◌, is_eq, Ordering, eqb-true, ints, *ℤ_cancel, *ℤ_pos, nonzero_of_pos, zero-*ℤ, *ℤ-zero, one-*ℤ, neg_ℤ-*ℤ, Row, Var, TOTAL_DISCOUNTED_COST, Form, ascends, variables_of, var_cmp, number_at, row_sum, alone, row_sum-alone, var_cmp_exact, Reduced, Definition, definitions_of, rows_of, defined, is_among, avoids, cost_variable, minus_one_at, placed, with_cost_variable, cost_variables, cost_form, other_entries, coefficient, AllAreCosts, IsCostReduced, IsCostOf, excess, AreMet, IsReducedBy, HaveNone}
 use Rattle.std.specs.declared.cmp.Ordering.TheVariants.{Less, Equal as Alike, Greater}
-use Rattle.std.proofs.lemmas.Bool.{eqb-true}
-use Rattle.std.proofs.lemmas.Int.{ints}
-use Rattle.exact_num.proofs.Integers.{*ℤ_cancel, *ℤ_pos, nonzero_of_pos}
-use Rattle.exact_num.proofs.Ring.{zero-*ℤ, *ℤ-zero, one-*ℤ, neg_ℤ-*ℤ}
-use Rattle.row_core.specs.declared.Row.{Row}
-use Rattle.row_core.specs.declared.Var.{Var}
-use Rattle.row_core.specs.declared.kind_numbers.TheConstants.{TOTAL_DISCOUNTED_COST}
-use Rattle.row_core.specs.Forms.{Form}
-use Rattle.row_core.specs.Numbers.{ascends, variables_of}
-use Rattle.row_core.specs.Order.{var_cmp}
-use Rattle.row_core.specs.Rows.{number_at, row_sum}
-use Rattle.row_core.specs.Values.{alone}
-use Rattle.row_core.proofs.MeaningLaws.{row_sum-alone}
-use Rattle.row_core.proofs.Orders.{var_cmp_exact}
-use Rattle.written_method.specs.declared.reduced.Reduced.{Reduced}
-use Rattle.written_method.specs.Definitions.{Definition, definitions_of, rows_of, defined, is_among, avoids}
-use Rattle.written_method.specs.Eliminated.{cost_variable, minus_one_at, placed, with_cost_variable, cost_variables, cost_form, other_entries}
-use Rattle.written_method.specs.Multiplied.{coefficient}
-use Rattle.variable_elimination.specs.CostRows.{AllAreCosts, IsCostReduced, IsCostOf}
-use Rattle.variable_elimination.specs.Meaning.{excess, AreMet}
-use Rattle.variable_elimination.specs.Reductions.{IsReducedBy}
-use Rattle.variable_elimination.specs.SoFar.{HaveNone}
 use Rattle.variable_elimination.proofs.FormLaws.{Ascends}
 use Rattle.variable_elimination.proofs.LeftLaws.{avoids-from_none}
 use Rattle.variable_elimination.proofs.LiftLaws.{alike, neither, row_sum-avoids}

@@ -1,26 +1,5 @@
 -- The multipliers of definitions as they are computed, from the last to the first: each makes the column of its variable right.
-use Rattle.std.proofs.Common.{◌≡◌, ℤ, pos, ◌+ℤ◌, ◌*ℤ◌, Bool, true, false, not, ◌||◌, List, [], ◌∷◌, ◌++◌, inl, inr, map, filter, refl, sym, ap, ap₂, ◌∙◌, subst, arith, if◌then◌else◌}
-use Rattle.std.specs.Prelude.{◌<ℤ◌}
-use Rattle.std.specs.Ordering.{is_eq}
-use Rattle.std.proofs.lemmas.Int.{ints}
-use Rattle.std.proofs.lemmas.List.Concat.{flat_map-cons}
-use Rattle.exact_num.specs.Rational.{Rational}
-use Rattle.exact_num.proofs.Ring.{ring, zero-*ℤ, *ℤ_comm}
-use Rattle.row_core.specs.declared.Row.{Row}
-use Rattle.row_core.specs.declared.RowName.{RowName}
-use Rattle.row_core.specs.declared.Var.{Var}
-use Rattle.row_core.specs.Columns.{row_in_column, column_of}
-use Rattle.row_core.specs.Numbers.{variables_of}
-use Rattle.row_core.specs.Order.{var_cmp, row_name_cmp}
-use Rattle.row_core.specs.Plans.{value_in}
-use Rattle.row_core.specs.Rows.{number_at, row_sum}
-use Rattle.row_core.specs.Values.{IsOver, alone}
-use Rattle.row_core.proofs.AscendingLaws.{both_passed}
-use Rattle.row_core.proofs.MeaningLaws.{row_sum-alone}
-use Rattle.row_core.proofs.Orders.{var_cmp_exact, row_name_cmp_total}
-use Rattle.written_method.specs.Definitions.{Definition, defined, is_among, own_of, avoids, AreTriangular}
-use Rattle.written_method.specs.Multiplied.{coefficient, multiplier_of, defined_multipliers}
-use Rattle.variable_elimination.specs.Certified.{column_sum, AreNamedOver}
+use Rattle.variable_elimination.proofs.Common.{◌≡◌, ℤ, pos, ◌+ℤ◌, ◌*ℤ◌, Bool, true, false, not, ◌||◌, List, [], ◌∷◌, ◌++◌, inl, inr, map, filter, refl, sym, ap, ap₂, ◌∙◌, subst, arith, if◌then◌else◌, ◌<ℤ◌, is_eq, ints, flat_map-cons, Rational, ring, zero-*ℤ, *ℤ_comm, Row, RowName, Var, row_in_column, column_of, variables_of, var_cmp, row_name_cmp, value_in, number_at, row_sum, IsOver, alone, both_passed, row_sum-alone, var_cmp_exact, row_name_cmp_total, Definition, defined, is_among, own_of, avoids, AreTriangular, coefficient, multiplier_of, defined_multipliers, column_sum, AreNamedOver}
 use Rattle.variable_elimination.proofs.LeftLaws.{number_at-none}
 use Rattle.variable_elimination.proofs.LiftLaws.{alike, neither}
 use Rattle.variable_elimination.proofs.RowNameLaws.{NamesAscend, RowIn, DefinitionsIn, same_name, name_itself, one_row, weighted-one, is_defined_by}

@@ -1,10 +1,5 @@
 -- The rows that are left, and the definitions and the other rows among them.
-use Rattle.std.proofs.Common.{◌≡◌, ℕ, ◌+◌, ◌<◌, ◌≤◌, List, [], ◌∷◌, length, get_or, drop, sym, ap, ap₂, ◌∙◌, arith}
-use Rattle.std.specs.Prelude.{Option, Some, None}
-use Rattle.std.proofs.lemmas.List.{drop_more, at_drop_all}
-use Rattle.row_core.specs.declared.Row.{Row}
-use Rattle.row_core.specs.declared.Var.{Var}
-use Rattle.written_method.specs.Definitions.{definitions_of, others_of}
+use Rattle.variable_elimination.proofs.Common.{◌≡◌, ℕ, ◌+◌, ◌<◌, ◌≤◌, List, [], ◌∷◌, length, get_or, drop, sym, ap, ap₂, ◌∙◌, arith, Option, Some, None, drop_more, at_drop_all, Row, Var, definitions_of, others_of}
 
 module _ (rows : List Row) (defs : List (Option Var)) (i : ℕ) (r : Row) (o : Option Var) (h : i < length rows) (same : length defs ≡ length rows) (is : r ≡ get_or rows i r) where
   inside : i < length defs

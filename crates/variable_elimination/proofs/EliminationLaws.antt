@@ -1,26 +1,5 @@
 -- The parts of the elimination together.
-use Rattle.std.proofs.Common.{◌≡◌, ℤ, pos, true, false, List, [], ◌∷◌, ◌++◌, map, filter, refl, sym, ap, ap₂, ◌∙◌, subst}
-use Rattle.std.specs.Prelude.{Option, Some, None, ◌<ℤ◌}
-use Rattle.std.specs.Option.{option_or}
-use Rattle.std.specs.BTreeMap.{BTreeMap}
-use Rattle.std.proofs.Common.{arith}
-use Rattle.std.proofs.lemmas.Int.{ints}
-use Rattle.exact_num.specs.Range.{all_fit}
-use Rattle.exact_num.specs.Steps.{Step, first_wide}
-use Rattle.exact_num.proofs.StepLaws.{first_wide-append, first_wide-fits, first_wide-stops, first_wide-nil}
-use Rattle.row_core.specs.declared.Row.{Row}
-use Rattle.row_core.specs.declared.Var.{Var}
-use Rattle.row_core.specs.declared.place.Place.{Place}
-use Rattle.row_core.specs.declared.place.Place.TheVariants.{Expand}
-use Rattle.row_core.specs.declared.place.Stopped.{Stopped}
-use Rattle.row_core.specs.declared.place.Stopped.TheVariants.{Width, Memory}
-use Rattle.row_core.specs.Forms.{Form, form_of}
-use Rattle.row_core.specs.Rows.{number_at}
-use Rattle.written_method.specs.Eliminated.{ReducedRow, at_first, reduced_row, is_kept, reduced_rows, row_steps, unscaled, cost_variable, cost_form, cost_row}
-use Rattle.written_method.specs.Expanded.{expanded_formed}
-use Rattle.variable_elimination.specs.CostRows.{IsCostRow}
-use Rattle.variable_elimination.specs.Kept.{forms_in}
-use Rattle.variable_elimination.specs.SoFar.{IsFirst, HaveForms, HaveNone}
+use Rattle.variable_elimination.proofs.Common.{◌≡◌, ℤ, pos, true, false, List, [], ◌∷◌, ◌++◌, map, filter, refl, sym, ap, ap₂, ◌∙◌, subst, Option, Some, None, ◌<ℤ◌, option_or, BTreeMap, arith, ints, all_fit, Step, first_wide, first_wide-append, first_wide-fits, first_wide-stops, first_wide-nil, Row, Var, Place, Expand, Stopped, Width, Memory, Form, form_of, number_at, ReducedRow, at_first, reduced_row, is_kept, reduced_rows, row_steps, unscaled, cost_variable, cost_form, cost_row, expanded_formed, IsCostRow, forms_in, IsFirst, HaveForms, HaveNone}
 use Rattle.variable_elimination.proofs.GrowthLaws.{own_positive}
 use Rattle.variable_elimination.proofs.SameForms.{expanded-same, expanded_formed-same}
 

@@ -1,15 +1,7 @@
 -- Variables are removed one after another.
 use Rattle.std.proofs.Common.{◌≡◌, ℕ, ◌+◌, ◌<◌, ◌≤◌, ℤ, Bool, true, false, ◌&&◌, List, ◌++◌, length, get_or, drop, Option, sym, ap, ◌∙◌, subst}
-use Rattle.std.proofs.lemmas.List.{drop_more, at_drop_all}
-use Rattle.exact_num.specs.Range.{all_fit}
+use Rattle.variable_elimination.proofs.Common.{drop_more, at_drop_all, all_fit, value_of, Frac, all_fit-append, all_fit-nil, Var, variables_of, Form, Scaled, definition_among, without, without_formed, without_all, without_all_formed}
 use Rattle.exact_num.specs.Rational.{IsLowest}
-use Rattle.exact_num.specs.Value.{value_of}
-use Rattle.exact_num.specs.declared.fraction.Frac.{Frac}
-use Rattle.exact_num.proofs.StepLaws.{all_fit-append, all_fit-nil}
-use Rattle.row_core.specs.declared.Var.{Var}
-use Rattle.row_core.specs.Numbers.{variables_of}
-use Rattle.row_core.specs.Forms.{Form}
-use Rattle.written_method.specs.Expanded.{Scaled, definition_among, without, without_formed, without_all, without_all_formed}
 
 -- a fraction's value is in lowest terms
 pub value-IsLowest : (f : Frac) → IsLowest (value_of f)

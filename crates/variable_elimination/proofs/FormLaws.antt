@@ -1,24 +1,9 @@
 -- A form without a variable: its variables ascend, and it has no number at the variable, nor where neither of the two has one.
-use Rattle.std.proofs.Common.{◌≡◌, ℕ, ◌<◌, ℤ, pos, ◌*ℤ◌, Bool, true, false, List, [], ◌∷◌, ◌++◌, sym, ap, ap₂, ◌∙◌, arith, if◌then◌else◌}
-use Rattle.std.specs.Prelude.{unsigned_abs, ⊤}
-use Rattle.std.specs.declared.cmp.Ordering.{Ordering}
+use Rattle.variable_elimination.proofs.Common.{◌≡◌, ℕ, ◌<◌, ℤ, pos, ◌*ℤ◌, Bool, true, false, List, [], ◌∷◌, ◌++◌, sym, ap, ap₂, ◌∙◌, arith, if◌then◌else◌, unsigned_abs, ⊤, Ordering, ints, common, gcd_of-dvd_left, gcd_of-dvd_right, int_div-mul, *ℤ_cancel, nonzero_of_pos, products, zero-*ℤ, *ℤ-zero, Var, Beside, left_only, right_only, all_right_only, first_beside, beside, less, lessened, undivided_entries, undivided_right, divisor_by, row_factor, def_factor, combined, Form, is_zero, numbers_of, variables_of, ascends, var_cmp, number_at, alone, row_sum-alone}
 use Rattle.std.specs.declared.cmp.Ordering.TheVariants.{Less, Equal, Greater}
-use Rattle.std.proofs.lemmas.Int.{ints}
-use Rattle.exact_num.specs.Formed.{common}
 use Rattle.exact_num.specs.Gcd.{gcd_of}
-use Rattle.exact_num.proofs.GcdLaws.{gcd_of-dvd_left, gcd_of-dvd_right}
-use Rattle.exact_num.proofs.Integers.{int_div-mul, *ℤ_cancel, nonzero_of_pos}
-use Rattle.exact_num.proofs.Ring.{products, zero-*ℤ, *ℤ-zero}
-use Rattle.row_core.specs.declared.Var.{Var}
-use Rattle.row_core.specs.Combined.{Beside, left_only, right_only, all_right_only, first_beside, beside, less, lessened, undivided_entries, undivided_right, divisor_by, row_factor, def_factor, combined}
-use Rattle.row_core.specs.Forms.{Form}
-use Rattle.row_core.specs.Numbers.{is_zero, numbers_of, variables_of, ascends}
-use Rattle.row_core.specs.Order.{var_cmp}
-use Rattle.row_core.specs.Rows.{number_at}
-use Rattle.row_core.specs.Values.{alone}
 use Rattle.row_core.specs.Written.{entries_divided}
 use Rattle.row_core.proofs.LessenedLaws.{row_sum-lessened, ascends-beside, ascends-lessened}
-use Rattle.row_core.proofs.MeaningLaws.{row_sum-alone}
 use Rattle.row_core.proofs.WrittenLaws.{row_divisor-is, row_sum-divided, variables_of-divided}
 
 abbrev pub Ascends : List (Var × ℤ) → Type 0

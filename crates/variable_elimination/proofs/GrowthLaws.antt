@@ -1,46 +1,10 @@
 -- Definitions are expanded one after another: what is reduced by some is reduced by more, and an expanded definition keeps its own entry.
-use Rattle.std.proofs.Common.{◌≡◌, ℕ, zero, suc, ◌+◌, ◌<◌, ◌≤◌, ℤ, pos, ◌+ℤ◌, ◌*ℤ◌, Bool, true, false, List, [], ◌∷◌, ◌++◌, length, refl, sym, ap, ap₂, ◌∙◌, subst, arith, if◌then◌else◌}
-use Rattle.std.specs.Prelude.{◌<ℤ◌, nat_lt}
-use Rattle.std.proofs.lemmas.Int.{ints}
-use Rattle.std.proofs.lemmas.Bool.Decides.{nat_tests}
-use Rattle.exact_num.specs.Rational.{Rational}
-use Rattle.exact_num.proofs.Integers.{*ℤ_pos}
-use Rattle.exact_num.proofs.Ring.{zero-*ℤ, *ℤ-zero}
-use Rattle.row_core.specs.declared.Row.{Row}
-use Rattle.row_core.specs.declared.Var.{Var}
-use Rattle.row_core.specs.Rows.{number_at, row_sum}
-use Rattle.row_core.specs.Values.{alone}
-use Rattle.row_core.proofs.DivisionLaws.{factor_pos}
-use Rattle.row_core.proofs.MeaningLaws.{row_sum-alone}
-use Rattle.row_core.specs.declared.Sense.TheVariants.{Equal}
-use Rattle.row_core.specs.Order.{var_cmp}
-use Rattle.std.specs.Ordering.{is_eq}
-use Rattle.std.proofs.Common.{get_or, ◌||◌, cond, map}
-use Rattle.std.specs.Map.{lookup}
-use Rattle.variable_elimination.specs.Kept.{form_entry}
-use Rattle.std.specs.Prelude.{Option, Some, None, IfSome}
-use Rattle.std.specs.BTreeMap.{BTreeMap, get}
-use Rattle.exact_num.specs.Range.{all_fit}
-use Rattle.exact_num.specs.Steps.{first_wide}
-use Rattle.exact_num.proofs.StepLaws.{first_wide-fits, first_wide-stops}
-use Rattle.row_core.specs.declared.place.Place.{Place}
-use Rattle.row_core.specs.declared.place.Place.TheVariants.{Expand}
-use Rattle.row_core.specs.declared.place.Stopped.{Stopped}
-use Rattle.row_core.specs.declared.place.Stopped.TheVariants.{Width, Memory}
-use Rattle.row_core.specs.Forms.{Form, form_of}
+use Rattle.variable_elimination.proofs.Common.{◌≡◌, ℕ, zero, suc, ◌+◌, ◌<◌, ◌≤◌, ℤ, pos, ◌+ℤ◌, ◌*ℤ◌, Bool, true, false, List, [], ◌∷◌, ◌++◌, length, refl, sym, ap, ap₂, ◌∙◌, subst, arith, if◌then◌else◌, ◌<ℤ◌, nat_lt, ints, nat_tests, Rational, *ℤ_pos, zero-*ℤ, *ℤ-zero, Row, Var, number_at, row_sum, alone, factor_pos, row_sum-alone, Equal, var_cmp, is_eq, get_or, ◌||◌, cond, map, lookup, form_entry, Option, Some, None, IfSome, BTreeMap, get, all_fit, first_wide, first_wide-fits, first_wide-stops, Place, Expand, Stopped, Width, Memory, Form, form_of, var_cmp_exact, unscaled, definition_steps, definition_among, expanded, expanded_formed, IsFirst, Definition, rows_of, defined, is_among, AreTriangular, forms_in, HaveForms, HaveNone, IsPushed, IsSoFar, multiples_of, IsReduced, IsReducedBy, IsReducedOne}
 use Rattle.row_core.specs.Stops.{IsStop}
-use Rattle.row_core.proofs.Orders.{var_cmp_exact}
-use Rattle.written_method.specs.Eliminated.{unscaled, definition_steps}
-use Rattle.written_method.specs.Expanded.{definition_among, expanded, expanded_formed}
-use Rattle.variable_elimination.specs.SoFar.{IsFirst}
 use Rattle.variable_elimination.proofs.LiftLaws.{alike}
 use Rattle.variable_elimination.proofs.LookUpLaws.{form_there, definition_among-get}
 use Rattle.variable_elimination.proofs.SameForms.{expanded-same, expanded_formed-same}
-use Rattle.written_method.specs.Definitions.{Definition, rows_of, defined, is_among, AreTriangular}
-use Rattle.variable_elimination.specs.Kept.{forms_in}
-use Rattle.variable_elimination.specs.SoFar.{HaveForms, HaveNone, IsPushed, IsSoFar}
 use Rattle.variable_elimination.proofs.VariableLaws.{itself, none_there, turned}
-use Rattle.variable_elimination.specs.Reductions.{multiples_of, IsReduced, IsReducedBy, IsReducedOne}
 
 -- the multiples up to a position, and 0 from there on
 abbrev below : ℕ → (ℕ → ℤ) → ℕ → ℤ

@@ -1,33 +1,5 @@
 -- Lifted multipliers keep the signs, the columns and the bound of those of the reduced rows.
-use Rattle.std.proofs.Common.{◌≡◌, ℕ, suc, ℤ, pos, ◌+ℤ◌, ◌*ℤ◌, Bool, true, false, List, [], ◌∷◌, map, length, refl, sym, ap, ap₂, ◌∙◌, subst, arith}
-use Rattle.std.specs.Prelude.{Option, ◌<ℤ◌}
-use Rattle.std.proofs.lemmas.Int.{ints}
-use Rattle.exact_num.specs.Rational.{Rational}
-use Rattle.exact_num.specs.Value.{value_of}
-use Rattle.exact_num.specs.declared.fraction.Frac.{Frac}
-use Rattle.exact_num.proofs.Ring.{zero-*ℤ, *ℤ-zero, one-*ℤ, *ℤ_comm}
-use Rattle.row_core.specs.declared.Row.{Row}
-use Rattle.row_core.specs.declared.RowName.{RowName}
-use Rattle.row_core.specs.declared.Var.{Var}
-use Rattle.row_core.specs.Forms.{Form}
-use Rattle.row_core.specs.Numbers.{ascends, before_first, variables_of}
-use Rattle.row_core.specs.Order.{var_cmp, row_name_cmp}
-use Rattle.row_core.specs.Plans.{value_in}
-use Rattle.row_core.specs.Rows.{number_at, row_sum}
-use Rattle.row_core.specs.Values.{alone}
-use Rattle.row_core.proofs.AscendingLaws.{both_passed}
-use Rattle.written_method.specs.declared.reduced.Reduced.{Reduced}
-use Rattle.written_method.specs.Certificates.{AreOverFrom, number_sum, right_sum}
-use Rattle.written_method.specs.Definitions.{Definition, definitions_of, others_of, rows_of, defined, is_among, AreTriangular}
-use Rattle.written_method.specs.Eliminated.{cost_variable, cost_variables, cost_form, minus_one_at}
-use Rattle.written_method.specs.Multiplied.{coefficient, scaled_multipliers, named_multipliers}
-use Rattle.written_method.specs.Programs.{inequality_of}
-use Rattle.variable_elimination.specs.Certified.{column_sum, bound_of, AreNamedOver, KeepBound, KeepSum}
-use Rattle.variable_elimination.specs.Eliminations.{IsPartOf, IsWhole}
-use Rattle.variable_elimination.specs.Left.{AvoidAll}
-use Rattle.variable_elimination.specs.Meaning.{AreMet}
-use Rattle.variable_elimination.specs.Reductions.{multiples_of}
-use Rattle.row_core.specs.RowLists.{names_of}
+use Rattle.variable_elimination.proofs.Common.{◌≡◌, ℕ, suc, ℤ, pos, ◌+ℤ◌, ◌*ℤ◌, Bool, true, false, List, [], ◌∷◌, map, length, refl, sym, ap, ap₂, ◌∙◌, subst, arith, Option, ◌<ℤ◌, ints, Rational, value_of, Frac, zero-*ℤ, *ℤ-zero, one-*ℤ, *ℤ_comm, Row, RowName, Var, Form, ascends, before_first, variables_of, var_cmp, row_name_cmp, value_in, number_at, row_sum, alone, both_passed, Reduced, AreOverFrom, number_sum, right_sum, Definition, definitions_of, others_of, rows_of, defined, is_among, AreTriangular, cost_variable, cost_variables, cost_form, minus_one_at, coefficient, scaled_multipliers, named_multipliers, inequality_of, column_sum, bound_of, AreNamedOver, KeepBound, KeepSum, IsPartOf, IsWhole, AvoidAll, AreMet, multiples_of, names_of}
 use Rattle.variable_elimination.proofs.CarriedLaws.{total, column_kept, bound_kept}
 use Rattle.variable_elimination.proofs.CostLaws.{keys-minus}
 use Rattle.variable_elimination.proofs.CostSums.{cost_entries, cost-defined, cost-other, cost-met, price-alone}

@@ -1,18 +1,5 @@
 -- Where definitions are taken one after another, no defined variable is left in an expanded row.
-use Rattle.std.proofs.Common.{◌≡◌, ℤ, pos, Bool, true, false, not, ◌&&◌, ◌||◌, List, [], ◌∷◌, ◌⊎◌, inl, inr, refl, sym, ap, ◌∙◌, subst, if◌then◌else◌}
-use Rattle.std.specs.Prelude.{Option, Some, None, ⊤}
-use Rattle.std.specs.Ordering.{is_eq}
-use Rattle.row_core.specs.declared.Var.{Var}
-use Rattle.row_core.specs.Forms.{Form, form_of}
-use Rattle.row_core.specs.Numbers.{is_zero, numbers_of, variables_of, none_zero}
-use Rattle.row_core.specs.Order.{var_cmp}
-use Rattle.row_core.specs.Rows.{number_at}
-use Rattle.row_core.proofs.AscendingLaws.{both_passed}
-use Rattle.row_core.proofs.MeaningLaws.{row_sum-alone}
-use Rattle.row_core.proofs.Orders.{var_cmp_exact}
-use Rattle.written_method.specs.Definitions.{Definition, defined, is_among, avoids, AreTriangular}
-use Rattle.written_method.specs.Eliminated.{unscaled, expanded_all}
-use Rattle.written_method.specs.Expanded.{Scaled, definition_among, without, without_all, expanded}
+use Rattle.variable_elimination.proofs.Common.{◌≡◌, ℤ, pos, Bool, true, false, not, ◌&&◌, ◌||◌, List, [], ◌∷◌, ◌⊎◌, inl, inr, refl, sym, ap, ◌∙◌, subst, if◌then◌else◌, Option, Some, None, ⊤, is_eq, Var, Form, form_of, is_zero, numbers_of, variables_of, none_zero, var_cmp, number_at, both_passed, row_sum-alone, var_cmp_exact, Definition, defined, is_among, avoids, AreTriangular, unscaled, expanded_all, Scaled, definition_among, without, without_all, expanded}
 use Rattle.variable_elimination.proofs.FormLaws.{Ascends, HaveOnly, combined-ascends, combined-none, combined-removes, combined-only}
 use Rattle.variable_elimination.proofs.LiftLaws.{alike}
 use Rattle.variable_elimination.proofs.VariableLaws.{itself, turned, none_there}

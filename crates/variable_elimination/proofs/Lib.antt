@@ -1,3 +1,4 @@
+mod Common
 pub mod LiftLaws
 pub mod ReductionLaws
 pub mod ExpandLaws

@@ -1,24 +1,6 @@
 -- Plans that meet triangular definitions: that there are some, and their signs.
-use Rattle.std.proofs.Common.{◌≡◌, ℕ, ℤ, pos, neg_ℤ, ◌+ℤ◌, ◌-ℤ◌, ◌*ℤ◌, Bool, true, false, not, ◌&&◌, ◌||◌, List, [], ◌∷◌, refl, sym, ap, ap₂, ◌∙◌, subst, arith, if◌then◌else◌}
-use Rattle.std.specs.Prelude.{◌<ℤ◌, ◌≤ℤ◌, int_le}
-use Rattle.std.specs.Ordering.{is_eq}
-use Rattle.std.specs.declared.cmp.Ordering.{Ordering}
+use Rattle.variable_elimination.proofs.Common.{◌≡◌, ℕ, ℤ, pos, neg_ℤ, ◌+ℤ◌, ◌-ℤ◌, ◌*ℤ◌, Bool, true, false, not, ◌&&◌, ◌||◌, List, [], ◌∷◌, refl, sym, ap, ap₂, ◌∙◌, subst, arith, if◌then◌else◌, ◌<ℤ◌, ◌≤ℤ◌, int_le, is_eq, Ordering, ints, nat_tests, *ℤ_pos, *ℤ_nonnegative, *ℤ-≤ℤ, ≤ℤ_cancel, ring, products, zero-*ℤ, *ℤ-zero, one-*ℤ, *ℤ_comm, Var, kind_is_free, var_cmp, row_sum, alone, both_passed, row_sum-alone, var_cmp_exact, is_among, Definition, defined, own_of, avoids, IsDefinition, AreTriangular, excess, AreMet, only_raises, KeepsSign, KeepSigns}
 use Rattle.std.specs.declared.cmp.Ordering.TheVariants.{Less, Equal, Greater}
-use Rattle.std.proofs.lemmas.Int.{ints}
-use Rattle.std.proofs.lemmas.Bool.Decides.{nat_tests}
-use Rattle.exact_num.proofs.Integers.{*ℤ_pos, *ℤ_nonnegative, *ℤ-≤ℤ, ≤ℤ_cancel}
-use Rattle.exact_num.proofs.Ring.{ring, products, zero-*ℤ, *ℤ-zero, one-*ℤ, *ℤ_comm}
-use Rattle.row_core.specs.declared.Var.{Var}
-use Rattle.row_core.specs.Kinds.{kind_is_free}
-use Rattle.row_core.specs.Order.{var_cmp}
-use Rattle.row_core.specs.Rows.{row_sum}
-use Rattle.row_core.specs.Values.{alone}
-use Rattle.row_core.proofs.AscendingLaws.{both_passed}
-use Rattle.row_core.proofs.MeaningLaws.{row_sum-alone}
-use Rattle.row_core.proofs.Orders.{var_cmp_exact}
-use Rattle.written_method.specs.Definitions.{is_among}
-use Rattle.written_method.specs.Definitions.{Definition, defined, own_of, avoids, IsDefinition, AreTriangular}
-use Rattle.variable_elimination.specs.Meaning.{excess, AreMet, only_raises, KeepsSign, KeepSigns}
 
 pub minus-is : (a b : ℤ) → a -ℤ b ≡ a +ℤ neg_ℤ b
 minus-is a b = omega (arith, ints)

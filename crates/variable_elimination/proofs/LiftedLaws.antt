@@ -1,36 +1,5 @@
 -- Values that are carried back meet the definitions, over whatever number they are written, and then all named rows.
-use Rattle.std.proofs.Common.{◌≡◌, ℕ, ◌<◌, ℤ, pos, ◌+ℤ◌, ◌*ℤ◌, true, false, not, List, [], ◌∷◌, inl, inr, length, refl, sym, ap, ap₂, ◌∙◌, subst, arith, if◌then◌else◌}
-use Rattle.std.specs.Prelude.{Option, Some, None, ⊤, ◌<ℤ◌, ◌≤ℤ◌, int_le}
-use Rattle.std.specs.BTreeMap.{insert_entry}
-use Rattle.std.specs.Ordering.{is_eq, int_eq}
-use Rattle.std.proofs.lemmas.Int.{ints}
-use Rattle.std.proofs.lemmas.Bool.Decides.{nat_tests}
-use Rattle.exact_num.specs.Rational.{Rational}
-use Rattle.exact_num.specs.Value.{value_of}
-use Rattle.exact_num.specs.declared.fraction.Frac.{Frac}
-use Rattle.exact_num.proofs.Integers.{*ℤ_nonnegative}
-use Rattle.exact_num.proofs.Ring.{zero-*ℤ, *ℤ-zero, *ℤ_comm}
-use Rattle.row_core.specs.declared.Row.{Row}
-use Rattle.row_core.specs.declared.Sense.{Sense}
-use Rattle.row_core.specs.declared.Sense.TheVariants.{Least, Equal, Most}
-use Rattle.row_core.specs.declared.Var.{Var}
-use Rattle.row_core.specs.Evaluated.{AreOver}
-use Rattle.row_core.specs.Order.{var_cmp}
-use Rattle.row_core.specs.Plans.{value_in}
-use Rattle.row_core.specs.Rows.{row_sum, RowHolds}
-use Rattle.row_core.specs.Statements.{Stands, stands}
-use Rattle.row_core.specs.Values.{IsOver, alone}
-use Rattle.row_core.proofs.AscendingLaws.{both_passed}
-use Rattle.row_core.proofs.MeaningLaws.{row_sum-alone, Stands-times}
-use Rattle.row_core.proofs.Orders.{var_cmp_exact, var_cmp_total}
-use Rattle.row_core.proofs.SumLaws.{IsOver-agree}
-use Rattle.written_method.specs.Definitions.{Definition, definitions_of, others_of, rows_of, defined, is_among, own_of, avoids, AreTriangular}
-use Rattle.written_method.specs.Eliminated.{other_entries, has_entries}
-use Rattle.written_method.specs.Lifted.{lifted_value, lifted, right_side, no_right_side}
-use Rattle.variable_elimination.specs.Left.{AvoidAll}
-use Rattle.variable_elimination.specs.Lifts.{AllStand, right_times, right_zero, KeepsOthers, CarriesPlan, CarriesDirection, MakesRight}
-use Rattle.variable_elimination.specs.Meaning.{excess, AreMet, KeepSigns}
-use Rattle.variable_elimination.specs.ReducedRows.{AreReductions}
+use Rattle.variable_elimination.proofs.Common.{◌≡◌, ℕ, ◌<◌, ℤ, pos, ◌+ℤ◌, ◌*ℤ◌, true, false, not, List, [], ◌∷◌, inl, inr, length, refl, sym, ap, ap₂, ◌∙◌, subst, arith, if◌then◌else◌, Option, Some, None, ⊤, ◌<ℤ◌, ◌≤ℤ◌, int_le, insert_entry, is_eq, int_eq, ints, nat_tests, Rational, value_of, Frac, *ℤ_nonnegative, zero-*ℤ, *ℤ-zero, *ℤ_comm, Row, Sense, Least, Equal, Most, Var, AreOver, var_cmp, value_in, row_sum, RowHolds, Stands, stands, IsOver, alone, both_passed, row_sum-alone, Stands-times, var_cmp_exact, var_cmp_total, IsOver-agree, Definition, definitions_of, others_of, rows_of, defined, is_among, own_of, avoids, AreTriangular, other_entries, has_entries, lifted_value, lifted, right_side, no_right_side, AvoidAll, AllStand, right_times, right_zero, KeepsOthers, CarriesPlan, CarriesDirection, MakesRight, excess, AreMet, KeepSigns, AreReductions}
 use Rattle.variable_elimination.proofs.SolvedLaws.{sum_of, row_sum-is, AreOverAt, split_at, solved-meets}
 use Rattle.variable_elimination.proofs.ValueSteps.{value_in-insert}
 use Rattle.variable_elimination.proofs.LiftLaws.{alike, from_not, neither, row_sum-avoids, row_sum-times, at_most, product_down, lifted_signs}

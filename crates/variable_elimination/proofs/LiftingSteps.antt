@@ -1,21 +1,6 @@
 -- The loop over definitions: the values as the code keeps them, and what is left to be made and formed.
-use Rattle.std.proofs.Common.{◌≡◌, true, false, List, [], ◌∷◌, sym, ap, ◌∙◌, subst}
-use Rattle.std.specs.Prelude.{Some, None}
-use Rattle.std.specs.BTreeMap.{BTreeMap, insert_entry}
-use Rattle.exact_num.specs.Range.{all_fit}
-use Rattle.exact_num.specs.Rational.{Rational}
-use Rattle.exact_num.specs.Steps.{first_wide}
-use Rattle.exact_num.specs.declared.fraction.Frac.{Frac}
-use Rattle.exact_num.proofs.StepLaws.{first_wide-fits, first_wide-stops, first_wide-nil}
-use Rattle.row_core.specs.declared.Row.{Row}
-use Rattle.row_core.specs.declared.Var.{Var}
-use Rattle.row_core.specs.Order.{var_cmp}
-use Rattle.row_core.specs.Plans.{value_in}
-use Rattle.written_method.specs.Definitions.{Definition}
-use Rattle.written_method.specs.Lifted.{lifted, lifted_steps, lifted_value, lifted_formed}
+use Rattle.variable_elimination.proofs.Common.{◌≡◌, true, false, List, [], ◌∷◌, sym, ap, ◌∙◌, subst, Some, None, BTreeMap, insert_entry, all_fit, Rational, first_wide, Frac, first_wide-fits, first_wide-stops, first_wide-nil, Row, Var, var_cmp, value_in, Definition, lifted, lifted_steps, lifted_value, lifted_formed, right_by, place_by, definition_by, IsLifting, values_in}
 use Rattle.variable_elimination.specs.declared.lifting.Lift.{Lift}
-use Rattle.variable_elimination.specs.Lifting.{right_by, place_by, definition_by, IsLifting}
-use Rattle.variable_elimination.specs.Valued.{values_in}
 
 -- ---- definitions
 

@@ -1,14 +1,6 @@
 -- Sums that are linear in the numbers of variables: where one is 0 at each variable of a list, it doesn't depend on these.
-use Rattle.std.proofs.Common.{◌≡◌, ℤ, pos, ◌+ℤ◌, ◌*ℤ◌, Bool, true, false, ◌||◌, List, [], ◌∷◌, ◌++◌, map, refl, sym, ap, ap₂, ◌∙◌, if◌then◌else◌}
-use Rattle.std.specs.Ordering.{is_eq}
-use Rattle.exact_num.proofs.Ring.{ring, zero-*ℤ, *ℤ-zero, zero-+ℤ}
-use Rattle.row_core.specs.declared.Var.{Var}
-use Rattle.row_core.specs.Order.{var_cmp}
-use Rattle.row_core.specs.Rows.{row_sum}
-use Rattle.row_core.specs.Values.{alone}
+use Rattle.variable_elimination.proofs.Common.{◌≡◌, ℤ, pos, ◌+ℤ◌, ◌*ℤ◌, Bool, true, false, ◌||◌, List, [], ◌∷◌, ◌++◌, map, refl, sym, ap, ap₂, ◌∙◌, if◌then◌else◌, is_eq, ring, zero-*ℤ, *ℤ-zero, zero-+ℤ, Var, var_cmp, row_sum, alone, is_among, other_entries}
 use Rattle.row_core.proofs.PlanLaws.{row_sum-same, row_sum-append}
-use Rattle.written_method.specs.Definitions.{is_among}
-use Rattle.written_method.specs.Eliminated.{other_entries}
 use Rattle.variable_elimination.proofs.LiftLaws.{row_sum-times}
 use Rattle.variable_elimination.proofs.LiftedLaws.{split}
 use Rattle.variable_elimination.proofs.VariableLaws.{itself}

@@ -1,15 +1,5 @@
 -- What a map of rows has at a variable, as forms.
-use Rattle.std.proofs.Common.{◌≡◌, Bool, true, false, cond, List, [], ◌∷◌, map, refl, sym}
-use Rattle.std.specs.Prelude.{Option, Some, None, IfSome}
-use Rattle.std.specs.BTreeMap.{BTreeMap, get}
-use Rattle.std.specs.Map.{lookup}
-use Rattle.std.specs.Ordering.{is_eq}
-use Rattle.row_core.specs.declared.Row.{Row}
-use Rattle.row_core.specs.declared.Var.{Var}
-use Rattle.row_core.specs.Forms.{Form, form_of}
-use Rattle.row_core.specs.Order.{var_cmp}
-use Rattle.written_method.specs.Expanded.{definition_among}
-use Rattle.variable_elimination.specs.Kept.{form_entry, forms_in}
+use Rattle.variable_elimination.proofs.Common.{◌≡◌, Bool, true, false, cond, List, [], ◌∷◌, map, refl, sym, Option, Some, None, IfSome, BTreeMap, get, lookup, is_eq, Row, Var, Form, form_of, var_cmp, definition_among, form_entry, forms_in}
 
 abbrev pub form_there : Option Row → Option Form
 form_there None = None

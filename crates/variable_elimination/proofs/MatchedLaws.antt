@@ -1,33 +1,5 @@
 -- The multipliers of rows that define nothing are those of their reduced rows, times the scales.
-use Rattle.std.proofs.Common.{◌≡◌, ℕ, suc, ℤ, pos, ◌+ℤ◌, ◌*ℤ◌, Bool, true, false, ◌||◌, List, [], ◌∷◌, ◌⊎◌, inl, inr, map, length, refl, sym, ap, ap₂, ◌∙◌, subst, arith, if◌then◌else◌}
-use Rattle.std.specs.Prelude.{Option, Some, None, ◌<ℤ◌, ◌≤ℤ◌}
-use Rattle.std.specs.BTreeMap.{insert_entry}
-use Rattle.std.specs.Ordering.{is_eq}
-use Rattle.std.proofs.lemmas.Int.{ints}
-use Rattle.exact_num.specs.Rational.{Rational, whole, times}
-use Rattle.exact_num.specs.Value.{value_of}
-use Rattle.exact_num.specs.declared.fraction.Frac.{Frac}
-use Rattle.exact_num.proofs.Integers.{*ℤ_cancel, *ℤ_nonnegative, nonzero_of_pos, ≤ℤ_cancel, *ℤ_pos}
-use Rattle.exact_num.proofs.Ring.{products, *ℤ-one, zero-*ℤ}
-use Rattle.row_core.specs.declared.Row.{Row}
-use Rattle.row_core.specs.declared.RowName.{RowName}
-use Rattle.row_core.specs.declared.Sense.{Sense}
-use Rattle.row_core.specs.declared.Sense.TheVariants.{Least, Equal, Most}
-use Rattle.row_core.specs.declared.Var.{Var}
-use Rattle.row_core.specs.Order.{row_name_cmp}
-use Rattle.row_core.specs.Plans.{value_in}
-use Rattle.row_core.specs.Values.{IsOver}
-use Rattle.row_core.proofs.Orders.{row_name_cmp_total}
-use Rattle.row_core.proofs.SumLaws.{IsOver-agree, IsOver-own, IsOver-times}
-use Rattle.written_method.specs.Certificates.{AreOverFrom, HasSign, HaveSigns}
-use Rattle.written_method.specs.Definitions.{Definition, definitions_of, others_of, rows_of, AreTriangular}
-use Rattle.written_method.specs.Multiplied.{scaled_multipliers}
-use Rattle.written_method.specs.Programs.{inequality_of}
-use Rattle.variable_elimination.specs.Certified.{weighted, AreSigned, AreNamedOver}
-use Rattle.variable_elimination.specs.Eliminations.{AreAmongReductions}
-use Rattle.variable_elimination.specs.Meaning.{excess, AreMet}
-use Rattle.variable_elimination.specs.Reductions.{multiples_of, IsReduced}
-use Rattle.row_core.specs.RowLists.{names_of}
+use Rattle.variable_elimination.proofs.Common.{◌≡◌, ℕ, suc, ℤ, pos, ◌+ℤ◌, ◌*ℤ◌, Bool, true, false, ◌||◌, List, [], ◌∷◌, ◌⊎◌, inl, inr, map, length, refl, sym, ap, ap₂, ◌∙◌, subst, arith, if◌then◌else◌, Option, Some, None, ◌<ℤ◌, ◌≤ℤ◌, insert_entry, is_eq, ints, Rational, whole, times, value_of, Frac, *ℤ_cancel, *ℤ_nonnegative, nonzero_of_pos, ≤ℤ_cancel, *ℤ_pos, products, *ℤ-one, zero-*ℤ, Row, RowName, Sense, Least, Equal, Most, Var, row_name_cmp, value_in, IsOver, row_name_cmp_total, IsOver-agree, IsOver-own, IsOver-times, AreOverFrom, HasSign, HaveSigns, Definition, definitions_of, others_of, rows_of, AreTriangular, scaled_multipliers, inequality_of, weighted, AreSigned, AreNamedOver, AreAmongReductions, excess, AreMet, multiples_of, IsReduced, names_of}
 use Rattle.variable_elimination.proofs.LiftLaws.{product_down}
 use Rattle.variable_elimination.proofs.ReductionLaws.{IsReduced-met}
 use Rattle.variable_elimination.proofs.RowNameLaws.{NamesAscend, RowIn, names-rest, first_apart, later_apart, name_itself}

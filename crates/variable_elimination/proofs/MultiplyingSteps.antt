@@ -1,31 +1,5 @@
 -- Multipliers, made one after another.
-use Rattle.std.proofs.Common.{◌≡◌, ℕ, zero, suc, ◌+◌, ◌<◌, ◌≤◌, ℤ, Bool, true, false, List, [], ◌∷◌, ◌++◌, map, length, get_or, drop, sym, ap, ap₂, ◌∙◌, subst, arith}
-use Rattle.std.specs.Prelude.{Option, Some, None}
-use Rattle.std.specs.BTreeMap.{BTreeMap, insert_entry}
-use Rattle.std.specs.Option.{option_or}
-use Rattle.std.proofs.lemmas.List.{drop_more}
-use Rattle.exact_num.specs.Formed.{product_formed}
-use Rattle.exact_num.specs.Range.{all_fit}
-use Rattle.exact_num.specs.Rational.{Rational, times}
-use Rattle.exact_num.specs.Steps.{Step, first_wide}
-use Rattle.exact_num.specs.Value.{value_of}
-use Rattle.exact_num.specs.declared.fraction.Frac.{Frac}
-use Rattle.exact_num.proofs.StepLaws.{first_wide-append, first_wide-fits, first_wide-stops, first_wide-nil}
-use Rattle.row_core.specs.declared.Row.{Row}
-use Rattle.row_core.specs.declared.RowName.{RowName}
-use Rattle.row_core.specs.declared.Var.{Var}
-use Rattle.row_core.specs.declared.place.Place.{Place}
-use Rattle.row_core.specs.declared.place.Place.TheVariants.{LiftMultiplier}
-use Rattle.row_core.specs.Columns.{column_of}
-use Rattle.row_core.specs.Order.{row_name_cmp}
-use Rattle.row_core.specs.Plans.{value_in}
-use Rattle.row_core.specs.Rows.{number_at}
-use Rattle.written_method.specs.Definitions.{Definition, definitions_of, AreTriangular}
-use Rattle.written_method.specs.Multiplied.{coefficient, scaled_multipliers, scaled_steps, defined_multipliers, defined_steps, multiplier_formed}
-use Rattle.written_method.specs.SolvedFor.{solved_for, solved_formed}
-use Rattle.variable_elimination.specs.Multiplying.{AreScaling, AreDone}
-use Rattle.row_core.specs.RowLists.{names_of}
-use Rattle.variable_elimination.specs.Valued.{values_in}
+use Rattle.variable_elimination.proofs.Common.{◌≡◌, ℕ, zero, suc, ◌+◌, ◌<◌, ◌≤◌, ℤ, Bool, true, false, List, [], ◌∷◌, ◌++◌, map, length, get_or, drop, sym, ap, ap₂, ◌∙◌, subst, arith, Option, Some, None, BTreeMap, insert_entry, option_or, drop_more, product_formed, all_fit, Rational, times, Step, first_wide, value_of, Frac, first_wide-append, first_wide-fits, first_wide-stops, first_wide-nil, Row, RowName, Var, Place, LiftMultiplier, column_of, row_name_cmp, value_in, number_at, Definition, definitions_of, AreTriangular, coefficient, scaled_multipliers, scaled_steps, defined_multipliers, defined_steps, multiplier_formed, solved_for, solved_formed, AreScaling, AreDone, names_of, values_in}
 use Rattle.variable_elimination.proofs.DefinitionSteps.{no_definition_left}
 
 -- ---- lists

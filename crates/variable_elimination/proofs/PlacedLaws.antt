@@ -1,21 +1,6 @@
 -- A variable is put at its place among ascending ones.
-use Rattle.std.proofs.Common.{◌≡◌, ℕ, zero, suc, ◌<◌, ◌≤◌, true, false, List, [], ◌∷◌, length, get_or, refl, sym, ap, ◌∙◌, subst, arith}
-use Rattle.std.specs.Cmp.Derive.{both_true}
-use Rattle.std.specs.List.{insert}
-use Rattle.std.specs.List.Sorted.{IsNonDecreasingBy, IsSortedBy}
-use Rattle.std.proofs.lemmas.List.Sorted.{searchable_from_sorted}
-use Rattle.std.proofs.Common.{add-one}
-use Rattle.std.specs.Ordering.{is_lt, ordering_index, ordering_reverse}
-use Rattle.std.specs.declared.cmp.Ordering.{Ordering}
+use Rattle.variable_elimination.proofs.Common.{◌≡◌, ℕ, zero, suc, ◌<◌, ◌≤◌, true, false, List, [], ◌∷◌, length, get_or, refl, sym, ap, ◌∙◌, subst, arith, both_true, insert, IsNonDecreasingBy, IsSortedBy, searchable_from_sorted, add-one, is_lt, ordering_index, ordering_reverse, Ordering, Var, TOTAL_DISCOUNTED_COST, before_first, ascends, var_cmp, both_passed, test-from_Less, ascends-first, var_cmp_total, var_cmp_exact, placed, AllAreCosts}
 use Rattle.std.specs.declared.cmp.Ordering.TheVariants.{Less, Equal as Alike, Greater}
-use Rattle.row_core.specs.declared.Var.{Var}
-use Rattle.row_core.specs.declared.kind_numbers.TheConstants.{TOTAL_DISCOUNTED_COST}
-use Rattle.row_core.specs.Numbers.{before_first, ascends}
-use Rattle.row_core.specs.Order.{var_cmp}
-use Rattle.row_core.proofs.AscendingLaws.{both_passed, test-from_Less, ascends-first}
-use Rattle.row_core.proofs.Orders.{var_cmp_total, var_cmp_exact}
-use Rattle.written_method.specs.Eliminated.{placed}
-use Rattle.variable_elimination.specs.CostRows.{AllAreCosts}
 
 abbrev chosen : Ordering → Var → Var → List Var → List Var → List Var
 chosen order v w ws rest =

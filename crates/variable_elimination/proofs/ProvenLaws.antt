@@ -1,25 +1,5 @@
 -- Multipliers that keep those of the reduced rows prove of the named rows what those prove of the reduced rows.
-use Rattle.std.proofs.Common.{◌≡◌, ℕ, ℤ, pos, neg_ℤ, ◌+ℤ◌, ◌*ℤ◌, Bool, true, false, ◌&&◌, ◌||◌, List, [], ◌∷◌, ◌++◌, ◌⊎◌, inl, inr, refl, sym, ap, ◌∙◌, subst, arith, if◌then◌else◌}
-use Rattle.std.specs.Prelude.{◌<ℤ◌, ◌==◌, nat_lt}
-use Rattle.std.proofs.lemmas.Bool.{eqb-true}
-use Rattle.std.proofs.lemmas.Int.{ints}
-use Rattle.exact_num.proofs.Integers.{*ℤ_cancel, ≤ℤ_cancel, nonzero_of_pos}
-use Rattle.exact_num.proofs.Ring.{zero-*ℤ, *ℤ_comm}
-use Rattle.row_core.specs.declared.Row.{Row}
-use Rattle.row_core.specs.declared.RowName.{RowName}
-use Rattle.row_core.specs.declared.Var.{Var}
-use Rattle.row_core.specs.declared.kind_numbers.TheConstants.{RATE_OF_ACTIVITY, NEW_CAPACITY, TRADE, TOTAL_DISCOUNTED_COST}
-use Rattle.row_core.specs.Kinds.{kind_is_free}
-use Rattle.row_core.specs.Rows.{number_at}
-use Rattle.written_method.specs.declared.reduced.Reduced.{Reduced}
-use Rattle.written_method.specs.Certificates.{Bounds, Refutes, IsWithin, number_sum}
-use Rattle.written_method.specs.Definitions.{is_among}
-use Rattle.written_method.specs.Eliminated.{is_column}
-use Rattle.written_method.specs.Multiplied.{coefficient}
-use Rattle.written_method.specs.Programs.{is_split, program_of}
-use Rattle.written_method.specs.Ready.{IsAmong}
-use Rattle.variable_elimination.specs.Certified.{column_sum, KeepBound, KeepSum, IsKnown, ProvesBound, RefutesRows}
-use Rattle.variable_elimination.specs.Columns.{AreChosen}
+use Rattle.variable_elimination.proofs.Common.{◌≡◌, ℕ, ℤ, pos, neg_ℤ, ◌+ℤ◌, ◌*ℤ◌, Bool, true, false, ◌&&◌, ◌||◌, List, [], ◌∷◌, ◌++◌, ◌⊎◌, inl, inr, refl, sym, ap, ◌∙◌, subst, arith, if◌then◌else◌, ◌<ℤ◌, ◌==◌, nat_lt, eqb-true, ints, *ℤ_cancel, ≤ℤ_cancel, nonzero_of_pos, zero-*ℤ, *ℤ_comm, Row, RowName, Var, RATE_OF_ACTIVITY, NEW_CAPACITY, TRADE, TOTAL_DISCOUNTED_COST, kind_is_free, number_at, Reduced, Bounds, Refutes, IsWithin, number_sum, is_among, is_column, coefficient, is_split, program_of, IsAmong, column_sum, KeepBound, KeepSum, IsKnown, ProvesBound, RefutesRows, AreChosen}
 use Rattle.variable_elimination.proofs.ReadyLaws.{contains-from_among}
 
 -- ---- columns are freely chosen

@@ -1,33 +1,8 @@
 -- What is left has no defined variable, and each variable of it is a column: it is ready to be solved.
-use Rattle.std.proofs.Common.{◌≡◌, zero, suc, ◌<◌, ◌≤◌, ◌+◌, ◌^◌, ℤ, pos, Bool, true, false, not, ◌||◌, List, [], ◌∷◌, ◌++◌, inl, inr, map, filter, length, refl, sym, ap, ◌∙◌, subst, arith, if◌then◌else◌}
+use Rattle.variable_elimination.proofs.Common.{◌≡◌, zero, suc, ◌<◌, ◌≤◌, ◌+◌, ◌^◌, ℤ, pos, Bool, true, false, not, ◌||◌, List, [], ◌∷◌, ◌++◌, inl, inr, map, filter, length, refl, sym, ap, ◌∙◌, subst, arith, if◌then◌else◌, both_true, is_eq, is_lt, Ordering, flat_map-cons, InRange, in_range, all_fit, all_fit-cons, Row, Var, TOTAL_DISCOUNTED_COST, Form, form_of, ascends, before_first, numbers_of, variables_of, var_cmp, both_passed, ascends-skip, row_fits, rhs_fits, var_cmp_total, number_at-fits, Definition, definitions_of, others_of, defined, is_among, avoids, AreTriangular, ReducedRow, at_first, reduced_row, is_kept, reduced_rows, is_column, column_entries, expanded_all, cost_variable, minus_one_at, placed, with_cost_variable, cost_variables, cost_form, cost_row, other_entries, unscaled, Reduced, is_split, IsAmong, AreAmong, RowsAreAmong, IsReady, AreColumns, IsCostOf, are_known, AreKnown, AvoidAll, Shape, shape_of, shape}
 use Rattle.std.specs.Prelude.{Option, Some, None, ⊤, Contains, ◌<ℤ◌, ◌==◌}
-use Rattle.std.specs.Cmp.Derive.{both_true}
-use Rattle.std.specs.Ordering.{is_eq, is_lt}
-use Rattle.std.specs.declared.cmp.Ordering.{Ordering}
 use Rattle.std.specs.declared.cmp.Ordering.TheVariants.{Less, Equal as Alike, Greater}
-use Rattle.std.proofs.lemmas.List.Concat.{flat_map-cons}
-use Rattle.exact_num.specs.Range.{InRange, in_range, all_fit}
-use Rattle.exact_num.proofs.StepLaws.{all_fit-cons}
-use Rattle.row_core.specs.declared.Row.{Row}
-use Rattle.row_core.specs.declared.Var.{Var}
-use Rattle.row_core.specs.declared.kind_numbers.TheConstants.{TOTAL_DISCOUNTED_COST}
-use Rattle.row_core.specs.Forms.{Form, form_of}
-use Rattle.row_core.specs.Numbers.{ascends, before_first, numbers_of, variables_of}
-use Rattle.row_core.specs.Order.{var_cmp}
-use Rattle.row_core.proofs.AscendingLaws.{both_passed, ascends-skip}
-use Rattle.row_core.proofs.CombinedLaws.{row_fits, rhs_fits}
-use Rattle.row_core.proofs.Orders.{var_cmp_total}
-use Rattle.row_core.proofs.PlanValueLaws.{number_at-fits}
-use Rattle.written_method.specs.Definitions.{Definition, definitions_of, others_of, defined, is_among, avoids, AreTriangular}
-use Rattle.written_method.specs.Eliminated.{ReducedRow, at_first, reduced_row, is_kept, reduced_rows, is_column, column_entries, expanded_all, cost_variable, minus_one_at, placed, with_cost_variable, cost_variables, cost_form, cost_row, other_entries, unscaled}
-use Rattle.written_method.specs.declared.reduced.Reduced.{Reduced}
 use Rattle.written_method.specs.FirstTableau.{width_of}
-use Rattle.written_method.specs.Programs.{is_split}
-use Rattle.written_method.specs.Ready.{IsAmong, AreAmong, RowsAreAmong, IsReady}
-use Rattle.variable_elimination.specs.Columns.{AreColumns}
-use Rattle.variable_elimination.specs.CostRows.{IsCostOf}
-use Rattle.variable_elimination.specs.Left.{are_known, AreKnown, AvoidAll}
-use Rattle.variable_elimination.specs.ReducedRows.{Shape, shape_of, shape}
 use Rattle.variable_elimination.proofs.FormLaws.{Ascends, HaveOnly}
 use Rattle.variable_elimination.proofs.LeftLaws.{avoids-from_none, DefinitionsHaveOnly, IsDone, expanded-done}
 use Rattle.variable_elimination.proofs.LiftLaws.{from_not}

@@ -1,28 +1,7 @@
 -- Reduced rows: how they come about, and that they say what the named rows say of plans that meet the definitions.
-use Rattle.std.proofs.Common.{◌≡◌, ℕ, zero, suc, ◌+◌, ◌<◌, ℤ, pos, neg_ℤ, ◌+ℤ◌, ◌-ℤ◌, ◌*ℤ◌, true, false, List, [], ◌∷◌, length, get_or, refl, sym, ap, ap₂, ◌∙◌, subst, arith, if◌then◌else◌}
-use Rattle.std.specs.Prelude.{◌<ℤ◌, ◌↔◌, ◌==◌}
-use Rattle.std.proofs.lemmas.Int.{ints}
-use Rattle.std.proofs.lemmas.Bool.Decides.{nat_tests}
+use Rattle.variable_elimination.proofs.Common.{◌≡◌, ℕ, zero, suc, ◌+◌, ◌<◌, ℤ, pos, neg_ℤ, ◌+ℤ◌, ◌-ℤ◌, ◌*ℤ◌, true, false, List, [], ◌∷◌, length, get_or, refl, sym, ap, ap₂, ◌∙◌, subst, arith, if◌then◌else◌, ◌<ℤ◌, ◌↔◌, ◌==◌, ints, nat_tests, *ℤ_pos, times-cross, times-IsLowest, ring, products, zero-*ℤ, *ℤ-zero, one-*ℤ, *ℤ_comm, Row, Var, row_sum, RowHolds, Stands, factor_pos, Stands-times, is_among, between, Definition, rows_of, avoids, excess, AreMet, multiples_of, IsReduced, IsReducedBy, IsReducedOver, Option, Some, None, Form, form_of, scaled_by, gcd_of-one}
 use Rattle.exact_num.specs.Rational.{Rational, IsLowest, whole, times}
-use Rattle.exact_num.proofs.Integers.{*ℤ_pos}
-use Rattle.exact_num.proofs.RationalLaws.{times-cross, times-IsLowest}
-use Rattle.exact_num.proofs.Ring.{ring, products, zero-*ℤ, *ℤ-zero, one-*ℤ, *ℤ_comm}
-use Rattle.row_core.specs.declared.Row.{Row}
-use Rattle.row_core.specs.declared.Var.{Var}
-use Rattle.row_core.specs.Rows.{row_sum, RowHolds}
-use Rattle.row_core.specs.Statements.{Stands}
-use Rattle.row_core.proofs.DivisionLaws.{factor_pos}
-use Rattle.row_core.proofs.MeaningLaws.{Stands-times}
-use Rattle.written_method.specs.Definitions.{is_among}
 use Rattle.row_core.specs.Scaled.{IsScaled}
-use Rattle.row_core.proofs.CombinedLaws.{between}
-use Rattle.written_method.specs.Definitions.{Definition, rows_of, avoids}
-use Rattle.variable_elimination.specs.Meaning.{excess, AreMet}
-use Rattle.variable_elimination.specs.Reductions.{multiples_of, IsReduced, IsReducedBy, IsReducedOver}
-use Rattle.std.specs.Prelude.{Option, Some, None}
-use Rattle.row_core.specs.Forms.{Form, form_of}
-use Rattle.written_method.specs.Expanded.{scaled_by}
-use Rattle.exact_num.proofs.GcdLaws.{gcd_of-one}
 use Rattle.variable_elimination.proofs.LiftLaws.{minus-is, row_sum-avoids, row_sum-times}
 
 -- ---- multiples

@@ -1,20 +1,6 @@
 -- Rows that ascend by name: a name is that of one row alone.
-use Rattle.std.proofs.Common.{◌≡◌, ℤ, pos, ◌+ℤ◌, ◌*ℤ◌, Bool, true, false, ◌&&◌, ◌||◌, List, [], ◌∷◌, ◌⊎◌, inl, inr, refl, sym, ap, ap₂, ◌∙◌, if◌then◌else◌}
-use Rattle.std.specs.Prelude.{Option, Some, None, ⊤}
-use Rattle.std.specs.Ordering.{is_eq, is_lt, ordering_reverse}
-use Rattle.std.specs.declared.cmp.Ordering.{Ordering}
+use Rattle.variable_elimination.proofs.Common.{◌≡◌, ℤ, pos, ◌+ℤ◌, ◌*ℤ◌, Bool, true, false, ◌&&◌, ◌||◌, List, [], ◌∷◌, ◌⊎◌, inl, inr, refl, sym, ap, ap₂, ◌∙◌, if◌then◌else◌, Option, Some, None, ⊤, is_eq, is_lt, ordering_reverse, Ordering, zero-*ℤ, one-*ℤ, +ℤ-zero, zero-+ℤ, Row, RowName, Var, ascends, before_first, row_name_cmp, both_passed, Less-from_test, ascends-skip, row_name_cmp_exact, row_name_cmp_total, Definition, definitions_of, others_of, weighted, names_of}
 use Rattle.std.specs.declared.cmp.Ordering.TheVariants.{Less, Equal as Alike, Greater}
-use Rattle.exact_num.proofs.Ring.{zero-*ℤ, one-*ℤ, +ℤ-zero, zero-+ℤ}
-use Rattle.row_core.specs.declared.Row.{Row}
-use Rattle.row_core.specs.declared.RowName.{RowName}
-use Rattle.row_core.specs.declared.Var.{Var}
-use Rattle.row_core.specs.Numbers.{ascends, before_first}
-use Rattle.row_core.specs.Order.{row_name_cmp}
-use Rattle.row_core.proofs.AscendingLaws.{both_passed, Less-from_test, ascends-skip}
-use Rattle.row_core.proofs.Orders.{row_name_cmp_exact, row_name_cmp_total}
-use Rattle.written_method.specs.Definitions.{Definition, definitions_of, others_of}
-use Rattle.variable_elimination.specs.Certified.{weighted}
-use Rattle.row_core.specs.RowLists.{names_of}
 use Rattle.variable_elimination.proofs.LiftLaws.{alike}
 use Rattle.variable_elimination.proofs.SolvedLaws.{alone_by}
 

@@ -1,26 +1,5 @@
 -- One row after another is reduced.
-use Rattle.std.proofs.Common.{◌≡◌, pos, Bool, true, false, not, ◌||◌, List, [], ◌∷◌, ◌++◌, map, refl, sym, ap, ap₂, ◌∙◌, subst, inl, inr, if◌then◌else◌}
-use Rattle.std.specs.Prelude.{Option, Some, None}
-use Rattle.std.specs.BTreeMap.{BTreeMap}
-use Rattle.exact_num.specs.Range.{all_fit}
-use Rattle.exact_num.specs.Rational.{Rational}
-use Rattle.exact_num.specs.Steps.{first_wide}
-use Rattle.exact_num.specs.Value.{value_of}
-use Rattle.exact_num.specs.declared.fraction.Frac.{Frac}
-use Rattle.exact_num.proofs.StepLaws.{first_wide-fits, first_wide-stops, first_wide-nil}
-use Rattle.row_core.specs.declared.Row.{Row}
-use Rattle.row_core.specs.declared.Var.{Var}
-use Rattle.row_core.specs.declared.RowName.{RowName}
-use Rattle.row_core.specs.declared.Sense.{Sense}
-use Rattle.row_core.specs.Combined.{combined_scale}
-use Rattle.row_core.specs.declared.place.Place.TheVariants.{Expand}
-use Rattle.row_core.specs.Forms.{Form, form_of}
-use Rattle.row_core.specs.Statements.{stands}
-use Rattle.written_method.specs.Eliminated.{ReducedRow, at_first, reduced_row, is_kept, reduced_rows, row_steps, has_entries}
-use Rattle.written_method.specs.Expanded.{Scaled, definition_among, without, without_all, scaled_by, expanded, expanded_formed}
-use Rattle.variable_elimination.specs.Expansions.{scaled_of}
-use Rattle.variable_elimination.specs.Kept.{forms_in, AreReduced}
-use Rattle.variable_elimination.specs.ReducedRows.{Shape, shape_of, shape, scale_in, scale_worth, AreThese, IsReduction, IsDropped, AreReductions, stays, IsNextRow, AreSoFar}
+use Rattle.variable_elimination.proofs.Common.{◌≡◌, pos, Bool, true, false, not, ◌||◌, List, [], ◌∷◌, ◌++◌, map, refl, sym, ap, ap₂, ◌∙◌, subst, inl, inr, if◌then◌else◌, Option, Some, None, BTreeMap, all_fit, Rational, first_wide, value_of, Frac, first_wide-fits, first_wide-stops, first_wide-nil, Row, Var, RowName, Sense, combined_scale, Expand, Form, form_of, stands, ReducedRow, at_first, reduced_row, is_kept, reduced_rows, row_steps, has_entries, Scaled, definition_among, without, without_all, scaled_by, expanded, expanded_formed, scaled_of, forms_in, AreReduced, Shape, shape_of, shape, scale_in, scale_worth, AreThese, IsReduction, IsDropped, AreReductions, stays, IsNextRow, AreSoFar}
 
 -- ---- a scale that is kept stays
 

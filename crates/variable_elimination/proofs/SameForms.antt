@@ -1,9 +1,5 @@
 -- Where two lists have the same form at each variable, rows are expanded alike.
-use Rattle.std.proofs.Common.{◌≡◌, List, [], ◌∷◌, ◌++◌, refl, ap, ◌∙◌}
-use Rattle.row_core.specs.declared.Var.{Var}
-use Rattle.row_core.specs.Forms.{Form}
-use Rattle.row_core.specs.Numbers.{variables_of}
-use Rattle.written_method.specs.Expanded.{Scaled, definition_among, without, without_formed, without_all, without_all_formed, expanded, expanded_formed}
+use Rattle.variable_elimination.proofs.Common.{◌≡◌, List, [], ◌∷◌, ◌++◌, refl, ap, ◌∙◌, Var, Form, variables_of, Scaled, definition_among, without, without_formed, without_all, without_all_formed, expanded, expanded_formed}
 
 module _ (a b : List (Var × Form)) (same : (v : Var) → definition_among a v ≡ definition_among b v) where
   all-same : (vs : List Var) (s : Scaled) → without_all a vs s ≡ without_all b vs s

@@ -1,15 +1,5 @@
 -- Where no definition is left, all of them are expanded.
-use Rattle.std.proofs.Common.{◌≡◌, List, [], ◌∷◌, ◌++◌, refl, sym, ap, ◌∙◌, subst}
-use Rattle.std.specs.Prelude.{None}
-use Rattle.std.specs.BTreeMap.{BTreeMap}
-use Rattle.exact_num.specs.Steps.{first_wide}
-use Rattle.exact_num.proofs.StepLaws.{first_wide-nil}
-use Rattle.row_core.specs.declared.Row.{Row}
-use Rattle.row_core.specs.declared.Var.{Var}
-use Rattle.written_method.specs.Definitions.{Definition, rows_of}
-use Rattle.written_method.specs.Eliminated.{expanded_all, definition_steps}
-use Rattle.variable_elimination.specs.Kept.{AreReduced}
-use Rattle.variable_elimination.specs.SoFar.{HaveForms, IsSoFar}
+use Rattle.variable_elimination.proofs.Common.{◌≡◌, List, [], ◌∷◌, ◌++◌, refl, sym, ap, ◌∙◌, subst, None, BTreeMap, first_wide, first_wide-nil, Row, Var, Definition, rows_of, expanded_all, definition_steps, AreReduced, HaveForms, IsSoFar}
 
 append_nothing : (rows : List Row) → rows ++ [] ≡ rows
 append_nothing [] = refl

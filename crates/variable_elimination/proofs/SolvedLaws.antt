@@ -1,20 +1,5 @@
 -- Values of which one is what an equation gives it meet the equation, over whatever number they are written.
-use Rattle.std.proofs.Common.{◌≡◌, ℤ, pos, neg_ℤ, ◌+ℤ◌, ◌-ℤ◌, ◌*ℤ◌, Bool, true, false, List, [], ◌∷◌, ◌++◌, refl, sym, ap, ap₂, ◌∙◌, subst, arith, if◌then◌else◌}
-use Rattle.std.specs.Prelude.{⊤, ◌<ℤ◌}
-use Rattle.std.specs.Ordering.{is_eq}
-use Rattle.std.specs.declared.cmp.Ordering.{Ordering}
-use Rattle.std.proofs.lemmas.Int.{ints}
-use Rattle.exact_num.specs.Rational.{Rational, whole, plus, minus, times, negated, divided}
-use Rattle.exact_num.proofs.Integers.{*ℤ_pos, *ℤ_cancel, nonzero_of_pos}
-use Rattle.exact_num.proofs.RationalLaws.{minus-is_plus}
-use Rattle.exact_num.proofs.Ring.{ring, products, zero-+ℤ}
-use Rattle.row_core.specs.declared.Var.{Var}
-use Rattle.row_core.specs.Evaluated.{sum_from}
-use Rattle.row_core.specs.Rows.{row_sum}
-use Rattle.row_core.specs.Values.{IsOver}
-use Rattle.row_core.proofs.SumLaws.{IsOver-agree, IsOver-lowest, IsOver-plus, IsOver-times, IsOver-negated, IsOver-own, IsOver-whole, IsOver-zero}
-use Rattle.written_method.specs.Eliminated.{other_entries}
-use Rattle.written_method.specs.SolvedFor.{other_sum, solved_for}
+use Rattle.variable_elimination.proofs.Common.{◌≡◌, ℤ, pos, neg_ℤ, ◌+ℤ◌, ◌-ℤ◌, ◌*ℤ◌, Bool, true, false, List, [], ◌∷◌, ◌++◌, refl, sym, ap, ap₂, ◌∙◌, subst, arith, if◌then◌else◌, ⊤, ◌<ℤ◌, is_eq, Ordering, ints, Rational, whole, plus, minus, times, negated, divided, *ℤ_pos, *ℤ_cancel, nonzero_of_pos, minus-is_plus, ring, products, zero-+ℤ, Var, sum_from, row_sum, IsOver, IsOver-agree, IsOver-lowest, IsOver-plus, IsOver-times, IsOver-negated, IsOver-own, IsOver-whole, IsOver-zero, other_entries, other_sum, solved_for}
 
 -- the sum of each number times its key's whole number
 abbrev pub sum_of : {K : Type 0} → (K → ℤ) → List (K × ℤ) → ℤ

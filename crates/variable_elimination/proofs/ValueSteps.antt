@@ -1,28 +1,8 @@
 -- Exact values by key: what a map has, what is put into it, and sums over the other keys.
-use Rattle.std.proofs.Common.{◌≡◌, ℕ, zero, suc, ◌+◌, ◌<◌, ◌≤◌, ℤ, pos, Bool, true, false, ◌&&◌, List, [], ◌∷◌, ◌++◌, cond, map, length, get_or, drop, take, refl, sym, ap, ap₂, ◌∙◌, if◌then◌else◌}
-use Rattle.std.specs.Prelude.{Some, None}
-use Rattle.std.specs.BTreeMap.{insert_entry}
-use Rattle.std.specs.Cmp.{IsTotalOrder}
-use Rattle.std.specs.Cmp.Derive.{both_true}
-use Rattle.std.specs.List.{AllByRecursion}
-use Rattle.std.specs.List.Sorted.{IsStrictlySortedBy}
+use Rattle.variable_elimination.proofs.Common.{◌≡◌, ℕ, zero, suc, ◌+◌, ◌<◌, ◌≤◌, ℤ, pos, Bool, true, false, ◌&&◌, List, [], ◌∷◌, ◌++◌, cond, map, length, get_or, drop, take, refl, sym, ap, ap₂, ◌∙◌, if◌then◌else◌, Some, None, insert_entry, IsTotalOrder, both_true, AllByRecursion, IsStrictlySortedBy, is_eq, is_lt, match_ordering, ordering_reverse, Ordering, drop_more, at_drop_all, take_more, all_fit, Rational, whole, plus, times, value_of, Frac, all_fit-append, all_fit-nil, sum_from, sum_from_formed, term_formed, keys_of, ascends, before_first, or_zero, valued, value_in, both_passed, Less-from_test, ascends-skip, worth, other_entries}
 use Rattle.std.specs.Map.{lookup, keys_of as map_keys}
-use Rattle.std.specs.Ordering.{is_eq, is_lt, match_ordering, ordering_reverse}
-use Rattle.std.specs.declared.cmp.Ordering.{Ordering}
 use Rattle.std.specs.declared.cmp.Ordering.TheVariants.{Less, Equal as Alike, Greater}
-use Rattle.std.proofs.lemmas.List.{drop_more, at_drop_all, take_more}
-use Rattle.exact_num.specs.Range.{all_fit}
-use Rattle.exact_num.specs.Rational.{Rational, whole, plus, times}
-use Rattle.exact_num.specs.Value.{value_of}
-use Rattle.exact_num.specs.declared.fraction.Frac.{Frac}
-use Rattle.exact_num.proofs.StepLaws.{all_fit-append, all_fit-nil}
-use Rattle.row_core.specs.Evaluated.{sum_from, sum_from_formed, term_formed}
 use Rattle.row_core.specs.LookUps.{value_at}
-use Rattle.row_core.specs.Numbers.{keys_of, ascends, before_first}
-use Rattle.row_core.specs.Plans.{or_zero, valued, value_in}
-use Rattle.row_core.proofs.AscendingLaws.{both_passed, Less-from_test, ascends-skip}
-use Rattle.row_core.proofs.PlanValueLaws.{worth}
-use Rattle.written_method.specs.Eliminated.{other_entries}
 
 -- ---- values by key
 

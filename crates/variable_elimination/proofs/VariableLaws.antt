@@ -1,15 +1,6 @@
 -- Variables, alike and apart.
-use Rattle.std.proofs.Common.{◌≡◌, ℤ, pos, ◌+ℤ◌, Bool, true, false, List, [], ◌∷◌, refl, ap, ap₂, ◌∙◌, if◌then◌else◌}
-use Rattle.std.specs.Ordering.{is_eq, ordering_reverse}
-use Rattle.std.specs.declared.cmp.Ordering.{Ordering}
+use Rattle.variable_elimination.proofs.Common.{◌≡◌, ℤ, pos, ◌+ℤ◌, Bool, true, false, List, [], ◌∷◌, refl, ap, ap₂, ◌∙◌, if◌then◌else◌, is_eq, ordering_reverse, Ordering, *ℤ-zero, Var, var_cmp, row_sum, alone, var_cmp_exact, var_cmp_total, is_among, avoids}
 use Rattle.std.specs.declared.cmp.Ordering.TheVariants.{Less, Equal as Alike, Greater}
-use Rattle.exact_num.proofs.Ring.{*ℤ-zero}
-use Rattle.row_core.specs.declared.Var.{Var}
-use Rattle.row_core.specs.Order.{var_cmp}
-use Rattle.row_core.specs.Rows.{row_sum}
-use Rattle.row_core.specs.Values.{alone}
-use Rattle.row_core.proofs.Orders.{var_cmp_exact, var_cmp_total}
-use Rattle.written_method.specs.Definitions.{is_among, avoids}
 use Rattle.variable_elimination.proofs.LiftLaws.{alike, row_sum-avoids}
 
 -- a variable compares alike with itself

@@ -1,15 +1,5 @@
 -- A pivot keeps the basis, and by the choice of the row that leaves the right sides.
-use Rattle.std.proofs.Common.{◌≡◌, ◌≢◌, ℕ, suc, ◌<◌, ℤ, pos, ◌-ℤ◌, ◌*ℤ◌, Bool, true, false, List, [], ◌∷◌, length, map, arith, if◌then◌else◌, refl, sym, ap, ap₂, ◌∙◌, subst, inl, inr}
-use Rattle.std.specs.Prelude.{◌<ℤ◌, ◌≤ℤ◌}
-use Rattle.std.proofs.lemmas.Int.{ints}
-use Rattle.exact_num.proofs.Integers.{*ℤ_cancel, nonzero_of_pos, <ℤ_cancel, ≤ℤ_cancel, *ℤ_pos, *ℤ_nonnegative, *ℤ-≤ℤ-neg, ≤ℤ_or_<ℤ}
-use Rattle.exact_num.proofs.Ring.{zero-*ℤ, *ℤ-zero, *ℤ_comm}
-use Rattle.written_method.specs.Lines.{Line, entry_of, numbers_of, factor_of, all_less, line_less, lowest_line, cleared}
-use Rattle.row_core.specs.Numbers.{is_zero}
-use Rattle.row_core.specs.Written.{row_divisor}
-use Rattle.std.specs.Prelude.{int_div}
-use Rattle.written_method.specs.Tableaus.{Tableau, line_of, basic_of, rows_of, pivoted}
-use Rattle.written_method.specs.Basis.{IsShaped, HasCosts, IsBasic, AreFeasible, MayLeave}
+use Rattle.written_method.proofs.Common.{◌≡◌, ◌≢◌, ℕ, suc, ◌<◌, ℤ, pos, ◌-ℤ◌, ◌*ℤ◌, Bool, true, false, List, [], ◌∷◌, length, map, arith, if◌then◌else◌, refl, sym, ap, ap₂, ◌∙◌, subst, inl, inr, ◌<ℤ◌, ◌≤ℤ◌, ints, *ℤ_cancel, nonzero_of_pos, <ℤ_cancel, ≤ℤ_cancel, *ℤ_pos, *ℤ_nonnegative, *ℤ-≤ℤ-neg, ≤ℤ_or_<ℤ, zero-*ℤ, *ℤ-zero, *ℤ_comm, Line, entry_of, numbers_of, factor_of, all_less, line_less, lowest_line, cleared, is_zero, row_divisor, int_div, Tableau, line_of, basic_of, rows_of, pivoted, IsShaped, HasCosts, IsBasic, AreFeasible, MayLeave}
 use Rattle.written_method.proofs.CombinedLaws.{IsCleared}
 use Rattle.written_method.proofs.PivotLaws.{length-pivoted, rows_of-pivoted, line_of-pivoted, line_of-other, basic_of-pivoted, basic_of-other, same_or_not, other-IsCleared}
 

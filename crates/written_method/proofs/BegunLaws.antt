@@ -1,20 +1,5 @@
 -- The first state of either phase: the slacks are basic, or x0 is after its pivot into the row with the least right side.
-use Rattle.std.proofs.Common.{◌≡◌, ◌≢◌, ℕ, zero, suc, ◌+◌, ◌-◌, ◌<◌, ◌≤◌, ℤ, pos, negsuc, ◌+ℤ◌, ◌-ℤ◌, ◌*ℤ◌, neg_ℤ, Bool, true, false, List, [], ◌∷◌, ◌++◌, length, get_or, map, take, arith, refl, sym, ap, ap₂, ◌∙◌, subst, ◌⊎◌, inl, inr, if◌then◌else◌, append_assoc}
-use Rattle.std.specs.Prelude.{◌<ℤ◌, ◌≤ℤ◌, int_lt, ◌||◌}
-use Rattle.std.proofs.lemmas.Int.{ints}
-use Rattle.std.proofs.lemmas.List.{get_or-map, get_or-take, length-append}
-use Rattle.exact_num.proofs.Integers.{≤ℤ_cancel}
-use Rattle.exact_num.proofs.Ring.{ring, zero-*ℤ, one-*ℤ}
-use Rattle.row_core.specs.declared.Var.{Var}
-use Rattle.row_core.specs.Rows.{number_at}
-use Rattle.written_method.specs.Basis.{IsShaped, HasCosts, AreFeasible}
-use Rattle.written_method.specs.Choices.{least_right_from}
-use Rattle.written_method.specs.FirstTableau.{as_most, by_column, width_of, slack_entries, right_of, any_negative, row_line, cost_line, artificial_line, tableau_with}
-use Rattle.written_method.specs.Lines.{Line, entry_of}
-use Rattle.written_method.specs.Meaning.{IsCombination}
-use Rattle.written_method.specs.Programs.{Inequality, LinearProgram}
-use Rattle.written_method.specs.Rounds.{right_sides}
-use Rattle.written_method.specs.Tableaus.{Tableau, line_of, rows_of, no_line, pivoted, negated, without_last}
+use Rattle.written_method.proofs.Common.{◌≡◌, ◌≢◌, ℕ, zero, suc, ◌+◌, ◌-◌, ◌<◌, ◌≤◌, ℤ, pos, negsuc, ◌+ℤ◌, ◌-ℤ◌, ◌*ℤ◌, neg_ℤ, Bool, true, false, List, [], ◌∷◌, ◌++◌, length, get_or, map, take, arith, refl, sym, ap, ap₂, ◌∙◌, subst, ◌⊎◌, inl, inr, if◌then◌else◌, append_assoc, ◌<ℤ◌, ◌≤ℤ◌, int_lt, ◌||◌, ints, get_or-map, get_or-take, length-append, ≤ℤ_cancel, ring, zero-*ℤ, one-*ℤ, Var, number_at, IsShaped, HasCosts, AreFeasible, least_right_from, as_most, by_column, width_of, slack_entries, right_of, any_negative, row_line, cost_line, artificial_line, tableau_with, Line, entry_of, IsCombination, Inequality, LinearProgram, right_sides, Tableau, line_of, rows_of, no_line, pivoted, negated, without_last}
 use Rattle.written_method.proofs.BasisLaws.{IsBasicBeside, IsBasic-pivoted, IsShaped-pivoted, HasCosts-pivoted}
 use Rattle.written_method.proofs.DroppedLaws.{entry-negated, line_of-negated, line_of-negated_other, length-lines-negated, IsShaped-negated, HasCosts-negated, IsBasic-negated, SolvesRows-negated, IsCombination-negated}
 use Rattle.written_method.proofs.FirstLaws.{no_row, firsts_of, rows_of-first, line-row, line-cost, line-artificial, length-lines, length-tail, IsShaped-first, HasCosts-first, IsBasic-first, AreFeasible-first, row-IsCombination, cost-IsCombination, artificial-IsCombination, row_line-x0, artificial-other, artificial-x0}

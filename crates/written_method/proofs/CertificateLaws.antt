@@ -1,19 +1,5 @@
 -- The multipliers of an infeasible end refute the rows, and those of an optimal end bound the cost.
-use Rattle.std.proofs.Common.{◌≡◌, ℕ, suc, ◌+◌, ◌<◌, ℤ, pos, neg_ℤ, ◌+ℤ◌, ◌*ℤ◌, Bool, true, false, ◌++◌, length, arith, refl, sym, ap, ◌∙◌, subst}
-use Rattle.std.specs.Prelude.{◌<ℤ◌, ◌≤ℤ◌}
-use Rattle.std.proofs.lemmas.Int.{ints}
-use Rattle.exact_num.proofs.Integers.{*ℤ_cancel, nonzero_of_pos, ≤ℤ_cancel, ≤ℤ-*ℤ, *ℤ_pos}
-use Rattle.exact_num.proofs.Ring.{ring, *ℤ-zero, one-*ℤ}
-use Rattle.row_core.specs.Rows.{number_at}
-use Rattle.written_method.specs.Certificates.{number_sum, right_sum, AreOverFrom, IsWithin, Refutes, Bounds}
-use Rattle.written_method.specs.Ends.{weighted_entry, weighted_right}
-use Rattle.written_method.specs.FirstTableau.{width_of, cost_line, artificial_line, zeros, x0_entry}
-use Rattle.written_method.specs.Lines.{Line, entry_of}
-use Rattle.written_method.specs.Programs.{LinearProgram, is_split}
-use Rattle.written_method.specs.Rounds.{State}
-use Rattle.written_method.specs.Runs.{Infeasible, Optimal}
-use Rattle.written_method.specs.Solved.{refuting_multipliers, optimal_multipliers}
-use Rattle.written_method.specs.Tableaus.{line_of, rows_of}
+use Rattle.written_method.proofs.Common.{◌≡◌, ℕ, suc, ◌+◌, ◌<◌, ℤ, pos, neg_ℤ, ◌+ℤ◌, ◌*ℤ◌, Bool, true, false, ◌++◌, length, arith, refl, sym, ap, ◌∙◌, subst, ◌<ℤ◌, ◌≤ℤ◌, ints, *ℤ_cancel, nonzero_of_pos, ≤ℤ_cancel, ≤ℤ-*ℤ, *ℤ_pos, ring, *ℤ-zero, one-*ℤ, number_at, number_sum, right_sum, AreOverFrom, IsWithin, Refutes, Bounds, weighted_entry, weighted_right, width_of, cost_line, artificial_line, zeros, x0_entry, Line, entry_of, LinearProgram, is_split, State, Infeasible, Optimal, refuting_multipliers, optimal_multipliers, line_of, rows_of}
 use Rattle.written_method.proofs.ChosenLaws.{round-NoColumn, due-one, due-two, deciding-one, deciding-two}
 use Rattle.written_method.proofs.ColumnLaws.{column_of, number_sum-is, right_sum-is, weighted-second, signs-of}
 use Rattle.written_method.proofs.EndLaws.{combination-entry, combination-right}

@@ -1,13 +1,6 @@
 -- What is due in a round: the column that enters has a positive entry in the deciding line, and the row that leaves is the first by
 -- quotient and rank of those with a positive entry in the column.
-use Rattle.std.proofs.Common.{◌≡◌, ℕ, zero, suc, ◌+◌, ◌-◌, ◌<◌, ℤ, pos, Bool, true, false, Option, Some, None, List, [], ◌∷◌, length, get_or, arith, refl, sym, ap, ◌∙◌, subst, inl, inr, if◌then◌else◌}
-use Rattle.std.specs.Prelude.{◌<ℤ◌, ◌≤ℤ◌, int_lt, nat_lt}
-use Rattle.std.proofs.lemmas.Int.{ints}
-use Rattle.written_method.specs.Basis.{IsShaped, MayLeave}
-use Rattle.written_method.specs.Choices.{Candidate, leaving_from, least_right_from, greatest_from, first_positive_from, rank_of}
-use Rattle.written_method.specs.Lines.{Line, entry_of}
-use Rattle.written_method.specs.Rounds.{State, Phase, Start, One, Two, entering, deciding_line, leaving, x0_of, right_sides, Due, Pivot, NoColumn, NoRow, due}
-use Rattle.written_method.specs.Tableaus.{Tableau, line_of, basic_of, rows_of}
+use Rattle.written_method.proofs.Common.{◌≡◌, ℕ, zero, suc, ◌+◌, ◌-◌, ◌<◌, ℤ, pos, Bool, true, false, Option, Some, None, List, [], ◌∷◌, length, get_or, arith, refl, sym, ap, ◌∙◌, subst, inl, inr, if◌then◌else◌, ◌<ℤ◌, ◌≤ℤ◌, int_lt, nat_lt, ints, IsShaped, MayLeave, Candidate, leaving_from, least_right_from, greatest_from, first_positive_from, rank_of, Line, entry_of, State, Phase, Start, One, Two, entering, deciding_line, leaving, x0_of, right_sides, Due, Pivot, NoColumn, NoRow, due, Tableau, line_of, basic_of, rows_of}
 use Rattle.written_method.proofs.EndLaws.{greatest-none, first_positive-none}
 use Rattle.written_method.proofs.PivotLaws.{same_or_not}
 use Rattle.written_method.proofs.LeavingLaws.{Leads, IsLeast, IsOfRow, leaving-IsLeast, none-leaves}

@@ -1,23 +1,5 @@
 -- The column of a variable in the first lines, and multipliers as combinations of these.
-use Rattle.std.proofs.Common.{◌≡◌, ℕ, suc, ◌<◌, ℤ, pos, negsuc, neg_ℤ, ◌+ℤ◌, ◌*ℤ◌, Bool, true, false, List, [], ◌∷◌, ◌++◌, get_or, arith, refl, sym, ap, ap₂, ◌∙◌, subst, inl, inr, if◌then◌else◌}
-use Rattle.std.specs.Prelude.{◌<ℤ◌, ◌≤ℤ◌}
-use Rattle.std.proofs.lemmas.Int.{ints}
-use Rattle.exact_num.specs.Rational.{Rational, lowest}
-use Rattle.exact_num.proofs.Integers.{*ℤ_cancel, nonzero_of_pos, ≤ℤ_cancel, *ℤ-≤ℤ, *ℤ_nonnegative}
-use Rattle.exact_num.proofs.RationalLaws.{lowest-cross}
-use Rattle.exact_num.proofs.Ring.{ring, zero-*ℤ, *ℤ-zero}
-use Rattle.row_core.specs.declared.Sense.{Sense}
-use Rattle.row_core.specs.declared.Sense.TheVariants.{Least, Equal, Most}
-use Rattle.row_core.specs.declared.Var.{Var}
-use Rattle.row_core.specs.Rows.{number_at}
-use Rattle.row_core.specs.Values.{IsOver}
-use Rattle.written_method.specs.Certificates.{number_sum, right_sum, HasSign, HaveSigns, AreOverFrom}
-use Rattle.written_method.specs.Ends.{weighted_entry, weighted_right}
-use Rattle.written_method.specs.FirstTableau.{as_most, by_column, width_of, right_of, row_line, row_lines, slack_entries, x0_entry}
-use Rattle.written_method.specs.Lines.{Line, entry_of}
-use Rattle.written_method.specs.Programs.{Inequality, is_split}
-use Rattle.written_method.specs.Ready.{IsAmong}
-use Rattle.written_method.specs.Values.{multipliers_from}
+use Rattle.written_method.proofs.Common.{◌≡◌, ℕ, suc, ◌<◌, ℤ, pos, negsuc, neg_ℤ, ◌+ℤ◌, ◌*ℤ◌, Bool, true, false, List, [], ◌∷◌, ◌++◌, get_or, arith, refl, sym, ap, ap₂, ◌∙◌, subst, inl, inr, if◌then◌else◌, ◌<ℤ◌, ◌≤ℤ◌, ints, Rational, lowest, *ℤ_cancel, nonzero_of_pos, ≤ℤ_cancel, *ℤ-≤ℤ, *ℤ_nonnegative, lowest-cross, ring, zero-*ℤ, *ℤ-zero, Sense, Least, Equal, Most, Var, number_at, IsOver, number_sum, right_sum, HasSign, HaveSigns, AreOverFrom, weighted_entry, weighted_right, as_most, by_column, width_of, right_of, row_line, row_lines, slack_entries, x0_entry, Line, entry_of, Inequality, is_split, IsAmong, multipliers_from}
 
 -- ---- the column of a variable
 

@@ -1,29 +1,5 @@
 -- The cost of a plan at an optimal end is the bound of the multipliers, and along the direction of an unbounded end z falls.
-use Rattle.std.proofs.Common.{◌≡◌, ◌≢◌, ℕ, zero, suc, ◌+◌, ◌<◌, ℤ, pos, neg_ℤ, ◌+ℤ◌, ◌-ℤ◌, ◌*ℤ◌, true, false, Option, Some, None, List, [], ◌∷◌, ◌++◌, length, get_or, arith, refl, sym, ap, ap₂, ◌∙◌, subst, inl, inr, if◌then◌else◌}
-use Rattle.std.specs.Prelude.{◌<ℤ◌, ◌≤ℤ◌, ◌==◌}
-use Rattle.std.proofs.lemmas.Bool.Decides.{nat_tests}
-use Rattle.std.proofs.lemmas.Int.{ints}
-use Rattle.exact_num.specs.Rational.{Rational, whole}
-use Rattle.exact_num.proofs.Integers.{*ℤ_cancel, nonzero_of_pos, *ℤ_pos}
-use Rattle.exact_num.proofs.Ring.{ring, zero-*ℤ, *ℤ-zero, one-*ℤ, *ℤ-one}
-use Rattle.row_core.specs.declared.Var.{Var}
-use Rattle.row_core.specs.Rows.{number_at, row_sum}
-use Rattle.row_core.specs.Values.{IsOver}
-use Rattle.row_core.proofs.DivisionLaws.{factor_pos}
-use Rattle.row_core.proofs.SumLaws.{IsOver-lowest, IsOver-zero}
-use Rattle.written_method.specs.Basis.{IsShaped, IsBasic}
-use Rattle.written_method.specs.Certificates.{right_sum, AreOverFrom, ValuesAreOver, Meets, HasBoundAsCost, Descends}
-use Rattle.written_method.specs.Ends.{AreOfBasis, weighted_right}
-use Rattle.written_method.specs.FirstTableau.{width_of, zeros, row_line, row_lines, cost_line, tableau_with}
-use Rattle.written_method.specs.Lines.{Line, entry_of}
-use Rattle.written_method.specs.Meaning.{Values, sum_from, excess, weighted, SolvesRows}
-use Rattle.written_method.specs.Programs.{Inequality, LinearProgram}
-use Rattle.written_method.specs.Ready.{IsPosed}
-use Rattle.written_method.specs.Rounds.{State}
-use Rattle.written_method.specs.Runs.{Optimal, Unbounded}
-use Rattle.written_method.specs.Solved.{values_of, direction_of, optimal_multipliers}
-use Rattle.written_method.specs.Tableaus.{Tableau, line_of, basic_of, rows_of}
-use Rattle.written_method.specs.Values.{by_variable, row_of_basic, column_value, column_direction, slope_of}
+use Rattle.written_method.proofs.Common.{◌≡◌, ◌≢◌, ℕ, zero, suc, ◌+◌, ◌<◌, ℤ, pos, neg_ℤ, ◌+ℤ◌, ◌-ℤ◌, ◌*ℤ◌, true, false, Option, Some, None, List, [], ◌∷◌, ◌++◌, length, get_or, arith, refl, sym, ap, ap₂, ◌∙◌, subst, inl, inr, if◌then◌else◌, ◌<ℤ◌, ◌≤ℤ◌, ◌==◌, nat_tests, ints, Rational, whole, *ℤ_cancel, nonzero_of_pos, *ℤ_pos, ring, zero-*ℤ, *ℤ-zero, one-*ℤ, *ℤ-one, Var, number_at, row_sum, IsOver, factor_pos, IsOver-lowest, IsOver-zero, IsShaped, IsBasic, right_sum, AreOverFrom, ValuesAreOver, Meets, HasBoundAsCost, Descends, AreOfBasis, weighted_right, width_of, zeros, row_line, row_lines, cost_line, tableau_with, Line, entry_of, Values, sum_from, excess, weighted, SolvesRows, Inequality, LinearProgram, IsPosed, State, Optimal, Unbounded, values_of, direction_of, optimal_multipliers, Tableau, line_of, basic_of, rows_of, by_variable, row_of_basic, column_value, column_direction, slope_of}
 use Rattle.written_method.proofs.ChosenLaws.{due-two, deciding-two, IsStuck, round-NoRow}
 use Rattle.written_method.proofs.ColumnLaws.{right_sum-is}
 use Rattle.written_method.proofs.EndLaws.{of_basis-rows, of_basis-cost, combination-right}

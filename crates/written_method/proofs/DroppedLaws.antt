@@ -1,15 +1,5 @@
 -- A row multiplied by -1, and a tableau without its last column: what they say, and what they keep.
-use Rattle.std.proofs.Common.{◌≡◌, ◌≢◌, ℕ, zero, suc, ◌+◌, ◌-◌, ◌<◌, ◌≤◌, ℤ, pos, ◌+ℤ◌, ◌-ℤ◌, ◌*ℤ◌, neg_ℤ, true, false, List, [], ◌∷◌, length, get_or, map, take, arith, refl, sym, ap, ap₂, ◌∙◌, subst, inl, inr, if◌then◌else◌}
-use Rattle.std.specs.Prelude.{◌==◌, ◌<ℤ◌}
-use Rattle.std.proofs.Math.ListN.{length-set}
-use Rattle.std.proofs.lemmas.Bool.Decides.{nat_tests}
-use Rattle.std.proofs.lemmas.Int.{ints}
-use Rattle.std.proofs.lemmas.List.{get_or-set_same, get_or-map, get_or-take}
-use Rattle.exact_num.proofs.Ring.{ring, *ℤ-zero}
-use Rattle.written_method.specs.Basis.{IsShaped, HasCosts, IsBasic}
-use Rattle.written_method.specs.Lines.{Line, entry_of}
-use Rattle.written_method.specs.Meaning.{Values, sum_from, excess, SolvesRows, weighted, IsCombination}
-use Rattle.written_method.specs.Tableaus.{Tableau, line_of, basic_of, rows_of, no_line, negated_line, negated, without_last, without_x0}
+use Rattle.written_method.proofs.Common.{◌≡◌, ◌≢◌, ℕ, zero, suc, ◌+◌, ◌-◌, ◌<◌, ◌≤◌, ℤ, pos, ◌+ℤ◌, ◌-ℤ◌, ◌*ℤ◌, neg_ℤ, true, false, List, [], ◌∷◌, length, get_or, map, take, arith, refl, sym, ap, ap₂, ◌∙◌, subst, inl, inr, if◌then◌else◌, ◌==◌, ◌<ℤ◌, length-set, nat_tests, ints, get_or-set_same, get_or-map, get_or-take, ring, *ℤ-zero, IsShaped, HasCosts, IsBasic, Line, entry_of, Values, sum_from, excess, SolvesRows, weighted, IsCombination, Tableau, line_of, basic_of, rows_of, no_line, negated_line, negated, without_last, without_x0}
 use Rattle.written_method.proofs.BasisLaws.{IsBasicBeside}
 use Rattle.written_method.proofs.PivotLaws.{minus-is, set_other, same_or_not, lines_length}
 

@@ -1,15 +1,6 @@
 -- A small model, eliminated by computation: an activity x, a capacity n, the total capacity t that is n, and the cost c of both.
-use Rattle.std.proofs.Common.{◌≡◌, ℕ, pos, negsuc, [], ◌∷◌, true, false, refl}
+use Rattle.written_method.proofs.Common.{◌≡◌, ℕ, pos, negsuc, [], ◌∷◌, true, false, refl, gcd_of, gcd_within, whole, lowest, times, Least, Most, Var, RowName, Form, var_cmp, unscaled, is_kept, is_column, cost_variable, cost_form, cost_row, other_entries, expanded}
 use Rattle.std.specs.Prelude.{None, Some}
-use Rattle.exact_num.specs.Gcd.{gcd_of, gcd_within}
-use Rattle.exact_num.specs.Rational.{whole, lowest, times}
-use Rattle.row_core.specs.declared.Sense.TheVariants.{Least, Most}
-use Rattle.row_core.specs.declared.Var.{Var}
-use Rattle.row_core.specs.declared.RowName.{RowName}
-use Rattle.row_core.specs.Forms.{Form}
-use Rattle.row_core.specs.Order.{var_cmp}
-use Rattle.written_method.specs.Eliminated.{unscaled, is_kept, is_column, cost_variable, cost_form, cost_row, other_entries}
-use Rattle.written_method.specs.Expanded.{expanded}
 
 -- the variable of this kind whose first subscript is r
 abbrev pub variable : ℕ → ℕ → Var

@@ -1,19 +1,6 @@
 -- The values of the last tableau meet the rows, their cost is the bound of the multipliers, and a direction descends.
-use Rattle.std.proofs.Common.{◌≡◌, ◌≢◌, ℕ, zero, suc, ◌+◌, ◌<◌, ℤ, pos, ◌-ℤ◌, ◌*ℤ◌, Bool, true, false, Option, Some, None, List, [], ◌∷◌, length, get_or, arith, refl, sym, ap, ◌∙◌, subst, inl, inr, if◌then◌else◌}
-use Rattle.std.specs.Prelude.{◌==◌, ◌<ℤ◌, ◌≤ℤ◌}
+use Rattle.written_method.proofs.Common.{◌≡◌, ◌≢◌, ℕ, zero, suc, ◌+◌, ◌<◌, ℤ, pos, ◌-ℤ◌, ◌*ℤ◌, Bool, true, false, Option, Some, None, List, [], ◌∷◌, length, get_or, arith, refl, sym, ap, ◌∙◌, subst, inl, inr, if◌then◌else◌, ◌==◌, ◌<ℤ◌, ◌≤ℤ◌, nat_tests, ints, Rational, whole, ≤ℤ_cancel, *ℤ_pos, *ℤ_nonnegative, ring, zero-*ℤ, *ℤ-zero, IsOver, IsOver-lowest, IsOver-zero, IsShaped, IsBasic, AreFeasible, AreOfBasis, entry_of, Tableau, line_of, basic_of, rows_of, row_of_basic, column_value, share_of}
 use borrow.Author.Tests.{eqb-true}
-use Rattle.std.proofs.lemmas.Bool.Decides.{nat_tests}
-use Rattle.std.proofs.lemmas.Int.{ints}
-use Rattle.exact_num.specs.Rational.{Rational, whole}
-use Rattle.exact_num.proofs.Integers.{≤ℤ_cancel, *ℤ_pos, *ℤ_nonnegative}
-use Rattle.exact_num.proofs.Ring.{ring, zero-*ℤ, *ℤ-zero}
-use Rattle.row_core.specs.Values.{IsOver}
-use Rattle.row_core.proofs.SumLaws.{IsOver-lowest, IsOver-zero}
-use Rattle.written_method.specs.Basis.{IsShaped, IsBasic, AreFeasible}
-use Rattle.written_method.specs.Ends.{AreOfBasis}
-use Rattle.written_method.specs.Lines.{entry_of}
-use Rattle.written_method.specs.Tableaus.{Tableau, line_of, basic_of, rows_of}
-use Rattle.written_method.specs.Values.{row_of_basic, column_value, share_of}
 use Rattle.written_method.proofs.PhaseLaws.{basic_apart}
 use Rattle.written_method.proofs.PivotLaws.{same_or_not}
 

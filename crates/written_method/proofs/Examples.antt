@@ -1,17 +1,6 @@
 -- The method on the least model of one technology: its activity x and its new capacity n, under x - n <= 0 twice, x >= 10 and x >= 0.
-use Rattle.std.proofs.Common.{◌≡◌, pos, negsuc, ℤ, List, [], ◌∷◌, refl}
-use Rattle.exact_num.specs.Gcd.{gcd_of, gcd_within}
-use Rattle.exact_num.specs.Range.{all_fit, in_range}
-use Rattle.exact_num.specs.Rational.{lowest, order_of, whole}
-use Rattle.exact_num.specs.Steps.{first_wide}
+use Rattle.written_method.proofs.Common.{◌≡◌, pos, negsuc, ℤ, List, [], ◌∷◌, refl, gcd_of, gcd_within, all_fit, in_range, lowest, order_of, whole, first_wide, Least, Most, Var, Inequality, LinearProgram, first_state, Pivot, due, answer, answer_of, run, IsOptimal, IsInfeasible, IsUnbounded, IsOutOfPivots, solved}
 use Rattle.row_core.specs.declared.Index.{Index}
-use Rattle.row_core.specs.declared.Sense.TheVariants.{Least, Most}
-use Rattle.row_core.specs.declared.Var.{Var}
-use Rattle.written_method.specs.Programs.{Inequality, LinearProgram}
-use Rattle.written_method.specs.FirstTableau.{first_state}
-use Rattle.written_method.specs.Rounds.{Pivot, due}
-use Rattle.written_method.specs.Runs.{answer, answer_of, run}
-use Rattle.written_method.specs.Solved.{IsOptimal, IsInfeasible, IsUnbounded, IsOutOfPivots, solved}
 
 abbrev pub first_place : Index
 first_place = record { region = 0; other = 0; slice = 0; tech = 0; fuel = 0; emission = 0; mode = 0; year = 0 }

@@ -1,20 +1,5 @@
 -- The first tableau: its shape, its basis of slacks, and its lines as combinations of themselves.
-use Rattle.std.proofs.Common.{◌≡◌, ◌≢◌, ℕ, zero, suc, ◌+◌, ◌<◌, ◌≤◌, ℤ, pos, negsuc, neg_ℤ, ◌+ℤ◌, ◌*ℤ◌, Bool, true, false, List, [], ◌∷◌, ◌++◌, length, get_or, arith, refl, sym, ap, ap₂, ◌∙◌, subst, ◌⊎◌, inl, inr, if◌then◌else◌}
-use Rattle.std.specs.Prelude.{◌<ℤ◌, ◌≤ℤ◌, int_lt, ◌||◌}
-use Rattle.std.proofs.Math.ListN.{get_or-append}
-use Rattle.std.proofs.lemmas.Bool.{cases_lt}
-use Rattle.std.proofs.lemmas.Int.{ints}
-use Rattle.std.proofs.lemmas.List.{get_or-append-add, length-append}
-use Rattle.exact_num.proofs.Ring.{zero-*ℤ, *ℤ-zero, one-*ℤ}
-use Rattle.row_core.specs.declared.Sense.TheVariants.{Most}
-use Rattle.row_core.specs.declared.Var.{Var}
-use Rattle.row_core.specs.Rows.{number_at}
-use Rattle.written_method.specs.Basis.{IsShaped, HasCosts, IsBasic, AreFeasible}
-use Rattle.written_method.specs.FirstTableau.{as_most, by_column, width_of, zeros, slack_entries, x0_entry, right_of, any_negative, row_line, row_lines, cost_line, artificial_line, counted_from, tableau_with}
-use Rattle.written_method.specs.Lines.{Line, entry_of}
-use Rattle.written_method.specs.Meaning.{Values, excess, weighted, IsCombination}
-use Rattle.written_method.specs.Programs.{Inequality, LinearProgram, is_split}
-use Rattle.written_method.specs.Tableaus.{line_of, basic_of, rows_of, no_line}
+use Rattle.written_method.proofs.Common.{◌≡◌, ◌≢◌, ℕ, zero, suc, ◌+◌, ◌<◌, ◌≤◌, ℤ, pos, negsuc, neg_ℤ, ◌+ℤ◌, ◌*ℤ◌, Bool, true, false, List, [], ◌∷◌, ◌++◌, length, get_or, arith, refl, sym, ap, ap₂, ◌∙◌, subst, ◌⊎◌, inl, inr, if◌then◌else◌, ◌<ℤ◌, ◌≤ℤ◌, int_lt, ◌||◌, get_or-append, cases_lt, ints, get_or-append-add, length-append, zero-*ℤ, *ℤ-zero, one-*ℤ, Most, Var, number_at, IsShaped, HasCosts, IsBasic, AreFeasible, as_most, by_column, width_of, zeros, slack_entries, x0_entry, right_of, any_negative, row_line, row_lines, cost_line, artificial_line, counted_from, tableau_with, Line, entry_of, Values, excess, weighted, IsCombination, Inequality, LinearProgram, is_split, line_of, basic_of, rows_of, no_line}
 
 -- ---- lengths
 

@@ -1,16 +1,5 @@
 -- The numbers that the steps of the method form, and what the pivots leave: worked out by hand, and by a program of another kind.
-use Rattle.std.proofs.Common.{◌≡◌, pos, negsuc, ℤ, List, [], ◌∷◌, Some, refl}
-use Rattle.exact_num.specs.Formed.{difference_formed, product_formed, quotient_formed, sum_formed}
-use Rattle.exact_num.specs.Gcd.{gcd_of, gcd_within}
-use Rattle.exact_num.specs.Rational.{Rational, divided, lowest, minus, pair, plus, times, whole}
-use Rattle.row_core.specs.declared.Var.{Var}
-use Rattle.row_core.specs.Forms.{Form}
-use Rattle.row_core.specs.Order.{var_cmp}
-use Rattle.row_core.specs.Plans.{value_in}
-use Rattle.written_method.specs.Expanded.{Scaled, expanded, expanded_formed}
-use Rattle.written_method.specs.Lines.{Line}
-use Rattle.written_method.specs.SolvedFor.{solved_for, solved_formed}
-use Rattle.written_method.specs.Tableaus.{Tableau, pivot_formed, pivoted}
+use Rattle.written_method.proofs.Common.{◌≡◌, pos, negsuc, ℤ, List, [], ◌∷◌, Some, refl, difference_formed, product_formed, quotient_formed, sum_formed, gcd_of, gcd_within, Rational, divided, lowest, minus, pair, plus, times, whole, Var, Form, var_cmp, value_in, Scaled, expanded, expanded_formed, Line, solved_for, solved_formed, Tableau, pivot_formed, pivoted}
 use Rattle.written_method.proofs.EliminationExamples.{c, n, t, x}
 
 -- ---- a pivot

@@ -1,19 +1,7 @@
 -- The row that leaves has the least quotient of right side by entry, and of those with this quotient the least rank.
-use Rattle.std.proofs.Common.{◌≡◌, ℕ, zero, suc, ◌+◌, ◌<◌, ◌≤◌, ℤ, pos, ◌*ℤ◌, Bool, true, false, Option, Some, None, List, [], ◌∷◌, length, get_or, arith, refl, sym, ap, ap₂, ◌∙◌, subst, ◌⊎◌, inl, inr, if◌then◌else◌}
-use Rattle.std.specs.Prelude.{◌<ℤ◌, ◌≤ℤ◌, int_lt, nat_lt}
-use Rattle.std.specs.Ordering.{int_cmp}
-use Rattle.std.specs.declared.cmp.Ordering.{Ordering}
+use Rattle.written_method.proofs.Common.{◌≡◌, ℕ, zero, suc, ◌+◌, ◌<◌, ◌≤◌, ℤ, pos, ◌*ℤ◌, Bool, true, false, Option, Some, None, List, [], ◌∷◌, length, get_or, arith, refl, sym, ap, ap₂, ◌∙◌, subst, ◌⊎◌, inl, inr, if◌then◌else◌, ◌<ℤ◌, ◌≤ℤ◌, int_lt, nat_lt, int_cmp, Ordering, nat_tests, ints, lowest, order_of, nonzero_of_pos, *ℤ_pos, *ℤ-≤ℤ, ≤ℤ_cancel, ≤ℤ_or_<ℤ, lowest-cross, lowest-IsLowest, products, Line, entry_of, no_line, Candidate, candidate_at, leaves_before, better, rank_of, leaving_from}
 use Rattle.std.specs.declared.cmp.Ordering.TheVariants.{Less, Equal, Greater}
-use Rattle.std.proofs.lemmas.Bool.Decides.{nat_tests}
-use Rattle.std.proofs.lemmas.Int.{ints}
-use Rattle.exact_num.specs.Rational.{lowest, order_of}
-use Rattle.exact_num.proofs.Integers.{nonzero_of_pos, *ℤ_pos, *ℤ-≤ℤ, ≤ℤ_cancel, ≤ℤ_or_<ℤ}
 use Rattle.exact_num.proofs.OrderLaws.{int_cmp-less, int_cmp-greater, int_cmp-mul}
-use Rattle.exact_num.proofs.RationalLaws.{lowest-cross, lowest-IsLowest}
-use Rattle.exact_num.proofs.Ring.{products}
-use Rattle.written_method.specs.Lines.{Line, entry_of}
-use Rattle.written_method.specs.Tableaus.{no_line}
-use Rattle.written_method.specs.Choices.{Candidate, candidate_at, leaves_before, better, rank_of, leaving_from}
 
 -- ---- quotients
 

@@ -1,3 +1,4 @@
+mod Common
 pub mod EliminationExamples
 mod LiftedExamples
 mod FormedExamples

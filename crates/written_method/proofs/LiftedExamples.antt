@@ -1,16 +1,7 @@
 -- A small model, lifted by computation: an activity x of at least 10 and at most the total capacity t, which is the capacity n, and the cost c of both. The plan x = n = 10 costs 80, and the multipliers -6 and 8 of the two inequalities say that none costs less.
-use Rattle.std.proofs.Common.{◌≡◌, ℕ, pos, negsuc, true, false, [], ◌∷◌, refl, ap₂}
-use Rattle.exact_num.specs.Gcd.{gcd_of, gcd_within}
-use Rattle.exact_num.specs.Rational.{Rational, whole, lowest, plus, minus, times, divided}
-use Rattle.row_core.specs.declared.Row.{Row}
-use Rattle.row_core.specs.declared.RowName.{RowName}
-use Rattle.row_core.specs.declared.Var.{Var}
-use Rattle.row_core.specs.Order.{var_cmp, row_name_cmp}
-use Rattle.row_core.specs.Plans.{value_in}
-use Rattle.row_core.specs.Rows.{number_at}
+use Rattle.written_method.proofs.Common.{◌≡◌, ℕ, pos, negsuc, true, false, [], ◌∷◌, refl, ap₂, gcd_of, gcd_within, Rational, whole, lowest, plus, minus, times, divided, Row, RowName, Var, var_cmp, row_name_cmp, value_in, number_at, solved_for}
 use Rattle.written_method.specs.Lifted.{lifted_value, right_side}
 use Rattle.written_method.specs.Multiplied.{scaled_multipliers, coefficient}
-use Rattle.written_method.specs.SolvedFor.{solved_for}
 
 abbrev variable : ℕ → Var
 variable kind = record { kind = kind; index = record { region = 0; other = 0; slice = 0; tech = 0; fuel = 0; emission = 0; mode = 0; year = 0 } }

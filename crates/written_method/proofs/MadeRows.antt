@@ -1,14 +1,6 @@
 -- Rows for examples, with parts of one's own choice. A row keeps its entries in a vector: that of these rows is a given one, with other items.
-use Rattle.std.proofs.Common.{◌≡◌, ℕ, ◌≤◌, ℤ, Bool, true, ◌&&◌, List, ◌∷◌, length, refl, arith, leb-true}
-use Rattle.std.specs.Global.{Vec}
-use Rattle.std.specs.Prelude.{nat_le}
-use Rattle.std.proofs.lemmas.Bool.{and_parts}
-use Rattle.row_core.specs.declared.Row.{Row}
-use Rattle.row_core.specs.declared.RowName.{RowName}
-use Rattle.row_core.specs.declared.Sense.{Sense}
-use Rattle.row_core.specs.declared.Var.{Var}
+use Rattle.written_method.proofs.Common.{◌≡◌, ℕ, ◌≤◌, ℤ, Bool, true, ◌&&◌, List, ◌∷◌, length, refl, arith, leb-true, Vec, nat_le, and_parts, Row, RowName, Sense, Var, var_cmp}
 use Rattle.row_core.specs.Numbers.{all_in_range, ascends, none_zero, numbers_of, variables_of}
-use Rattle.row_core.specs.Order.{var_cmp}
 use Rattle.row_core.proofs.RowLaws.{IsLowest-unit, has_unit}
 
 -- how many entries the vector has room for

@@ -1,27 +1,6 @@
 -- Values of columns that solve the first lines meet the rows of the linear program, and an optimal plan costs its bound.
-use Rattle.std.proofs.Common.{◌≡◌, ◌≢◌, ℕ, zero, suc, ◌+◌, ◌<◌, ℤ, pos, neg_ℤ, ◌+ℤ◌, ◌-ℤ◌, ◌*ℤ◌, Bool, true, false, List, [], ◌∷◌, ◌++◌, length, get_or, arith, refl, sym, ap, ap₂, ◌∙◌, subst, ◌⊎◌, inl, inr, if◌then◌else◌}
-use Rattle.std.specs.Prelude.{◌<ℤ◌, ◌≤ℤ◌}
-use Rattle.std.proofs.lemmas.Int.{ints}
-use Rattle.exact_num.specs.Rational.{Rational, minus}
-use Rattle.exact_num.proofs.Integers.{≤ℤ_cancel, *ℤ_nonnegative}
-use Rattle.exact_num.proofs.Ring.{ring, zero-*ℤ, one-*ℤ}
-use Rattle.row_core.specs.declared.Sense.{Sense}
-use Rattle.row_core.specs.declared.Sense.TheVariants.{Least, Equal, Most}
-use Rattle.row_core.specs.declared.Var.{Var}
-use Rattle.row_core.specs.Numbers.{ascends, variables_of}
-use Rattle.row_core.specs.Order.{var_cmp}
-use Rattle.row_core.specs.Rows.{number_at, row_sum}
+use Rattle.written_method.proofs.Common.{◌≡◌, ◌≢◌, ℕ, zero, suc, ◌+◌, ◌<◌, ℤ, pos, neg_ℤ, ◌+ℤ◌, ◌-ℤ◌, ◌*ℤ◌, Bool, true, false, List, [], ◌∷◌, ◌++◌, length, get_or, arith, refl, sym, ap, ap₂, ◌∙◌, subst, ◌⊎◌, inl, inr, if◌then◌else◌, ◌<ℤ◌, ◌≤ℤ◌, ints, Rational, minus, ≤ℤ_cancel, *ℤ_nonnegative, ring, zero-*ℤ, one-*ℤ, Sense, Least, Equal, Most, Var, ascends, variables_of, var_cmp, number_at, row_sum, IsOver, IsOver-agree, ValuesAreOver, MeetRows, Meets, as_most, by_column, width_of, zeros, slack_entries, right_of, row_line, tableau_with, Values, sum_from, excess, SolvesRows, Inequality, LinearProgram, is_split, IsAmong, AreAmong, ArePosed, IsPosed, values_of, Tableau, by_variable, column_value}
 use Rattle.row_core.specs.Statements.{Stands}
-use Rattle.row_core.specs.Values.{IsOver}
-use Rattle.row_core.proofs.SumLaws.{IsOver-agree}
-use Rattle.written_method.specs.Certificates.{ValuesAreOver, MeetRows, Meets}
-use Rattle.written_method.specs.FirstTableau.{as_most, by_column, width_of, zeros, slack_entries, right_of, row_line, tableau_with}
-use Rattle.written_method.specs.Meaning.{Values, sum_from, excess, SolvesRows}
-use Rattle.written_method.specs.Programs.{Inequality, LinearProgram, is_split}
-use Rattle.written_method.specs.Ready.{IsAmong, AreAmong, ArePosed, IsPosed}
-use Rattle.written_method.specs.Solved.{values_of}
-use Rattle.written_method.specs.Tableaus.{Tableau}
-use Rattle.written_method.specs.Values.{by_variable, column_value}
 use Rattle.written_method.proofs.EndLaws.{of_basis-rows}
 use Rattle.written_method.proofs.EndValueLaws.{AreValues, values-of}
 use Rattle.written_method.proofs.FirstLaws.{no_row, rows_of-first, line-row}

@@ -1,17 +1,5 @@
 -- What holds between two pivots in either phase, against the first tableau; and that a pivot keeps it.
-use Rattle.std.proofs.Common.{◌≡◌, ◌≢◌, ℕ, suc, ◌+◌, ◌-◌, ◌<◌, ◌≤◌, ℤ, pos, ◌-ℤ◌, ◌*ℤ◌, Bool, true, false, Some, length, arith, sym, ap, ap₂, ◌∙◌, subst, inl, inr, if◌then◌else◌}
-use Rattle.std.specs.Prelude.{◌<ℤ◌, ◌≤ℤ◌, ◌==◌}
-use Rattle.std.proofs.lemmas.Bool.Decides.{nat_tests}
-use Rattle.std.proofs.lemmas.Int.{ints}
-use Rattle.exact_num.proofs.Integers.{*ℤ_cancel, nonzero_of_pos, *ℤ_pos, ≤ℤ_or_<ℤ, ≤ℤ-*ℤ}
-use Rattle.exact_num.proofs.Ring.{ring, zero-*ℤ, *ℤ-zero}
-use Rattle.written_method.specs.Basis.{IsShaped, HasCosts, IsBasic, AreFeasible, MayLeave}
-use Rattle.written_method.specs.Choices.{rank_of}
-use Rattle.written_method.specs.FirstTableau.{width_of, cost_line, artificial_line, tableau_with}
-use Rattle.written_method.specs.Lines.{Line, entry_of}
-use Rattle.written_method.specs.Meaning.{Values, excess, SolvesRows, IsCombination}
-use Rattle.written_method.specs.Programs.{LinearProgram}
-use Rattle.written_method.specs.Tableaus.{Tableau, line_of, basic_of, rows_of, pivoted}
+use Rattle.written_method.proofs.Common.{◌≡◌, ◌≢◌, ℕ, suc, ◌+◌, ◌-◌, ◌<◌, ◌≤◌, ℤ, pos, ◌-ℤ◌, ◌*ℤ◌, Bool, true, false, Some, length, arith, sym, ap, ap₂, ◌∙◌, subst, inl, inr, if◌then◌else◌, ◌<ℤ◌, ◌≤ℤ◌, ◌==◌, nat_tests, ints, *ℤ_cancel, nonzero_of_pos, *ℤ_pos, ≤ℤ_or_<ℤ, ≤ℤ-*ℤ, ring, zero-*ℤ, *ℤ-zero, IsShaped, HasCosts, IsBasic, AreFeasible, MayLeave, rank_of, width_of, cost_line, artificial_line, tableau_with, Line, entry_of, Values, excess, SolvesRows, IsCombination, LinearProgram, Tableau, line_of, basic_of, rows_of, pivoted}
 use Rattle.written_method.proofs.BasisLaws.{IsBasic-beside, IsBasic-pivoted, AreFeasible-pivoted, IsShaped-pivoted, HasCosts-pivoted}
 use Rattle.written_method.proofs.EndLaws.{positive-kept}
 use Rattle.written_method.proofs.FirstLaws.{firsts_of}

@@ -1,19 +1,7 @@
 -- Which place is told where numbers of two steps don't fit: definitions come before the rows that define nothing, and the row of the cost comes last.
-use Rattle.std.proofs.Common.{◌≡◌, ℕ, ◌-◌, ◌^◌, ℤ, pos, negsuc, neg_ℤ, [], ◌∷◌, Option, None, Some, refl}
-use Rattle.std.specs.Global.{Vec}
-use Rattle.exact_num.specs.Formed.{product_formed}
-use Rattle.exact_num.specs.Gcd.{gcd_of, gcd_within}
-use Rattle.exact_num.specs.Range.{all_fit, in_range}
-use Rattle.exact_num.specs.Rational.{lowest, times}
-use Rattle.exact_num.specs.Steps.{first_wide}
-use Rattle.row_core.specs.declared.Row.{Row}
-use Rattle.row_core.specs.declared.RowName.{RowName}
-use Rattle.row_core.specs.declared.Sense.TheVariants.{Equal, Most}
-use Rattle.row_core.specs.declared.Var.{Var}
-use Rattle.row_core.specs.declared.place.Place.{Place}
+use Rattle.written_method.proofs.Common.{◌≡◌, ℕ, ◌-◌, ◌^◌, ℤ, pos, negsuc, neg_ℤ, [], ◌∷◌, Option, None, Some, refl, Vec, product_formed, gcd_of, gcd_within, all_fit, in_range, lowest, times, first_wide, Row, RowName, Equal, Most, Var, Place, elimination_steps}
 use Rattle.row_core.specs.declared.place.Place.TheVariants.{CostRow, Expand}
 use Rattle.written_method.proofs.MadeRows.{made_row}
-use Rattle.written_method.specs.Eliminated.{elimination_steps}
 use Rattle.written_method.proofs.EliminationExamples.{c, variable, x}
 
 -- the greatest number that fits

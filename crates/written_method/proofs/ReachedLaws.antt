@@ -1,18 +1,5 @@
 -- Every state of a run is reached: what holds of the first state holds, phase by phase, of each later one.
-use Rattle.std.proofs.Common.{◌≡◌, ◌≢◌, ℕ, zero, suc, ◌+◌, ◌-◌, ◌<◌, pos, Bool, true, false, Option, Some, None, ◌∷◌, length, arith, refl, sym, ap, ◌∙◌, subst, inl, inr, if◌then◌else◌}
-use Rattle.std.specs.Prelude.{◌<ℤ◌, ◌≤ℤ◌, ◌==◌}
-use Rattle.std.proofs.lemmas.Bool.Decides.{nat_tests}
-use Rattle.std.proofs.lemmas.Int.{ints}
-use Rattle.exact_num.specs.Steps.{first_wide}
-use Rattle.row_core.specs.declared.place.Place.{Place}
-use Rattle.written_method.specs.Basis.{MayLeave}
-use Rattle.written_method.specs.Choices.{least_right_from, rank_of}
-use Rattle.written_method.specs.FirstTableau.{width_of, any_negative, tableau_with, first_state}
-use Rattle.written_method.specs.Lines.{Line, entry_of}
-use Rattle.written_method.specs.Programs.{LinearProgram}
-use Rattle.written_method.specs.Rounds.{State, Phase, Start, One, Two, Due, Pivot, NoColumn, NoRow, right_sides, due, after, step_of}
-use Rattle.written_method.specs.Runs.{End, Optimal, Infeasible, Unbounded, PivotDue, Run, Answer, Ended, RanOut, ended, no_column, run, answer_of, answer}
-use Rattle.written_method.specs.Tableaus.{Tableau, line_of, basic_of, rows_of, pivoted, negated, without_x0}
+use Rattle.written_method.proofs.Common.{◌≡◌, ◌≢◌, ℕ, zero, suc, ◌+◌, ◌-◌, ◌<◌, pos, Bool, true, false, Option, Some, None, ◌∷◌, length, arith, refl, sym, ap, ◌∙◌, subst, inl, inr, if◌then◌else◌, ◌<ℤ◌, ◌≤ℤ◌, ◌==◌, nat_tests, ints, first_wide, Place, MayLeave, least_right_from, rank_of, width_of, any_negative, tableau_with, first_state, Line, entry_of, LinearProgram, State, Phase, Start, One, Two, Due, Pivot, NoColumn, NoRow, right_sides, due, after, step_of, End, Optimal, Infeasible, Unbounded, PivotDue, Run, Answer, Ended, RanOut, ended, no_column, run, answer_of, answer, Tableau, line_of, basic_of, rows_of, pivoted, negated, without_x0}
 use Rattle.written_method.proofs.BegunLaws.{begun, IsLowestRow, prepared-is, begun-IsReachedFrom, begun-HasArtificial, lowest-IsLowestRow, IsReachedFrom-first}
 use Rattle.written_method.proofs.ChosenLaws.{due-start, due-one, due-two, deciding-one, x0-one, IsRound, round-IsRound, IsRound-MayLeave, IsStuck, round-NoRow}
 use Rattle.written_method.proofs.LeavingLaws.{Leads}

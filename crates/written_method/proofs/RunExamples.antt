@@ -1,17 +1,6 @@
 -- Rounds, one by one and in runs: which column enters after degenerate pivots, what is left without x0, and pivots after phase 1. Expected values are those of another
 -- program.
-use Rattle.std.proofs.Common.{◌≡◌, ℕ, pos, negsuc, ℤ, List, [], ◌∷◌, ◌++◌, Some, refl}
-use Rattle.exact_num.specs.Gcd.{gcd_of, gcd_within}
-use Rattle.exact_num.specs.Range.{all_fit, in_range}
-use Rattle.exact_num.specs.Rational.{lowest, order_of, pair, whole}
-use Rattle.exact_num.specs.Steps.{first_wide}
-use Rattle.row_core.specs.declared.Sense.TheVariants.{Least, Most}
-use Rattle.written_method.specs.Lines.{Line}
-use Rattle.written_method.specs.Programs.{LinearProgram}
-use Rattle.written_method.specs.Rounds.{One, Phase, State, Two, after, degenerate_after, due, entering, Pivot, tableau_after}
-use Rattle.written_method.specs.Runs.{answer, answer_of, run}
-use Rattle.written_method.specs.Solved.{IsOptimal, IsOutOfPivots, solved}
-use Rattle.written_method.specs.Tableaus.{Tableau}
+use Rattle.written_method.proofs.Common.{◌≡◌, ℕ, pos, negsuc, ℤ, List, [], ◌∷◌, ◌++◌, Some, refl, gcd_of, gcd_within, all_fit, in_range, lowest, order_of, pair, whole, first_wide, Least, Most, Line, LinearProgram, One, Phase, State, Two, after, degenerate_after, due, entering, Pivot, tableau_after, answer, answer_of, run, IsOptimal, IsOutOfPivots, solved, Tableau}
 use Rattle.written_method.proofs.Examples.{activity, base_rows, at_most, model_of, new_capacity}
 
 abbrev line : List ℤ → ℤ → ℤ → Line

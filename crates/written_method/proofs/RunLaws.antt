@@ -1,12 +1,7 @@
 -- The answer, pivot by pivot: this is all that the loop of the code needs.
-use Rattle.std.proofs.Common.{◌≡◌, ℕ, zero, suc, true, false, Option, Some, None, ◌∷◌, ap, ◌∙◌}
-use Rattle.exact_num.specs.Steps.{first_wide}
-use Rattle.exact_num.specs.Range.{all_fit}
+use Rattle.written_method.proofs.Common.{◌≡◌, ℕ, zero, suc, true, false, Option, Some, None, ◌∷◌, ap, ◌∙◌, first_wide, all_fit, Place, State, Due, Pivot, NoColumn, NoRow, due, after, step_of, Unbounded, PivotDue, Run, Answer, Ended, RanOut, ended, no_column, run, answer_of, answer}
 use Rattle.exact_num.proofs.StepLaws.{first_wide-fits, first_wide-stops}
-use Rattle.row_core.specs.declared.place.Place.{Place}
 use Rattle.row_core.specs.declared.place.Place.TheVariants as places
-use Rattle.written_method.specs.Rounds.{State, Due, Pivot, NoColumn, NoRow, due, after, step_of}
-use Rattle.written_method.specs.Runs.{Unbounded, PivotDue, Run, Answer, Ended, RanOut, ended, no_column, run, answer_of, answer}
 
 -- a pivot that fits leads on
 pub answer-pivot : (n : ℕ) (s : State) (r c : ℕ) → due s ≡ Pivot r c → all_fit (step_of s r c).formed ≡ true → answer (suc n) s ≡ answer n (after s r c)

@@ -1,15 +1,5 @@
 -- x0 leaves: without its column and the line of w the tableau is one of phase 2.
-use Rattle.std.proofs.Common.{◌≡◌, ◌≢◌, ℕ, suc, ◌+◌, ◌-◌, ◌<◌, ◌≤◌, ℤ, pos, negsuc, ◌+ℤ◌, ◌*ℤ◌, true, false, List, [], ◌∷◌, ◌++◌, length, get_or, take, arith, refl, sym, ap, ap₂, ◌∙◌, subst, inl, inr, append_assoc}
-use Rattle.std.specs.Prelude.{◌<ℤ◌, ◌≤ℤ◌}
-use Rattle.std.proofs.lemmas.List.{length-append}
-use Rattle.row_core.specs.declared.Var.{Var}
-use Rattle.row_core.specs.Rows.{number_at}
-use Rattle.written_method.specs.Basis.{IsShaped, IsBasic}
-use Rattle.written_method.specs.FirstTableau.{as_most, by_column, width_of, zeros, slack_entries, row_line, row_lines, cost_line, tableau_with}
-use Rattle.written_method.specs.Lines.{Line, entry_of}
-use Rattle.written_method.specs.Meaning.{Values, excess, weighted, SolvesRows, IsCombination}
-use Rattle.written_method.specs.Programs.{Inequality, LinearProgram}
-use Rattle.written_method.specs.Tableaus.{Tableau, line_of, basic_of, rows_of, pivoted, without_last, without_x0}
+use Rattle.written_method.proofs.Common.{◌≡◌, ◌≢◌, ℕ, suc, ◌+◌, ◌-◌, ◌<◌, ◌≤◌, ℤ, pos, negsuc, ◌+ℤ◌, ◌*ℤ◌, true, false, List, [], ◌∷◌, ◌++◌, length, get_or, take, arith, refl, sym, ap, ap₂, ◌∙◌, subst, inl, inr, append_assoc, ◌<ℤ◌, ◌≤ℤ◌, length-append, Var, number_at, IsShaped, IsBasic, as_most, by_column, width_of, zeros, slack_entries, row_line, row_lines, cost_line, tableau_with, Line, entry_of, Values, excess, weighted, SolvesRows, IsCombination, Inequality, LinearProgram, Tableau, line_of, basic_of, rows_of, pivoted, without_last, without_x0}
 use Rattle.written_method.proofs.BegunLaws.{row_line-dropped}
 use Rattle.written_method.proofs.DroppedLaws.{entry-without_last, length-without_last, without, excess-without_last, length-lines-without, line_of-without}
 use Rattle.written_method.proofs.FirstLaws.{no_row, firsts_of, rows_of-first, line-row, IsShaped-first, length-by_column, length-zeros, length-slack_entries}

@@ -1,29 +1,11 @@
 -- Variables in ascending order, and sums over them, column by column.
-use Rattle.std.proofs.Common.{◌≡◌, ℕ, suc, ◌+◌, ℤ, pos, neg_ℤ, ◌+ℤ◌, ◌-ℤ◌, ◌*ℤ◌, Bool, true, false, List, [], ◌∷◌, ◌++◌, arith, refl, sym, ap, ap₂, ◌∙◌, subst, inl, inr, if◌then◌else◌}
-use Rattle.std.specs.Prelude.{⊤}
-use Rattle.std.specs.Ordering.{is_eq, is_lt}
+use Rattle.written_method.proofs.Common.{◌≡◌, ℕ, suc, ◌+◌, ℤ, pos, neg_ℤ, ◌+ℤ◌, ◌-ℤ◌, ◌*ℤ◌, Bool, true, false, List, [], ◌∷◌, ◌++◌, arith, refl, sym, ap, ap₂, ◌∙◌, subst, inl, inr, if◌then◌else◌, ⊤, is_eq, is_lt, Ordering, ints, minus-is_plus, ring, zero-*ℤ, *ℤ-zero, Var, ascends, keys_of, var_cmp, number_at, row_sum, IsOver, IsOver-agree, IsOver-plus, IsOver-negated, ValuesAreOver, by_column, width_of, sum_from, is_split, IsAmong, AreAmong, by_variable}
 use Rattle.std.specs.Cmp.Derive.{both_true}
-use Rattle.std.specs.declared.cmp.Ordering.{Ordering}
 use Rattle.std.specs.declared.cmp.Ordering.TheVariants.{Less, Equal, Greater}
-use Rattle.std.proofs.lemmas.Int.{ints}
 use Rattle.exact_num.specs.Rational.{Rational, minus, negated, plus}
-use Rattle.exact_num.proofs.RationalLaws.{minus-is_plus}
-use Rattle.exact_num.proofs.Ring.{ring, zero-*ℤ, *ℤ-zero}
-use Rattle.row_core.specs.declared.Var.{Var}
-use Rattle.row_core.specs.Numbers.{ascends, keys_of}
-use Rattle.row_core.specs.Order.{var_cmp}
-use Rattle.row_core.specs.Rows.{number_at, row_sum}
-use Rattle.row_core.specs.Values.{IsOver}
 use Rattle.row_core.proofs.AscendingLaws.{ascends-tail, ascends-skip, both_passed, Less-from_test}
 use Rattle.row_core.proofs.Orders.{var_cmp_total, var_cmp_exact}
-use Rattle.row_core.proofs.SumLaws.{IsOver-agree, IsOver-plus, IsOver-negated}
 use Rattle.row_core.proofs.TermLaws.{same_alike}
-use Rattle.written_method.specs.Certificates.{ValuesAreOver}
-use Rattle.written_method.specs.FirstTableau.{by_column, width_of}
-use Rattle.written_method.specs.Meaning.{sum_from}
-use Rattle.written_method.specs.Programs.{is_split}
-use Rattle.written_method.specs.Ready.{IsAmong, AreAmong}
-use Rattle.written_method.specs.Values.{by_variable}
 use Rattle.written_method.proofs.PivotLaws.{minus-is}
 
 -- ---- the order

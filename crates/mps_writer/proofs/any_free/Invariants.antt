@@ -1,6 +1,4 @@
-use Rattle.std.proofs.Common.{◌≡◌, ◌+◌, drop}
-use Rattle.std.specs.List.{list_any, enumerate_from}
-use Rattle.mps_writer.specs.MpsText.{is_free_column, numbered}
+use Rattle.mps_writer.proofs.Common.{◌≡◌, ◌+◌, drop, list_any, enumerate_from, is_free_column, numbered}
 use Rattle.mps_writer.proofs.any_free.Given as goal
 
 -- no column so far is free: whether one is, is said of those that are left

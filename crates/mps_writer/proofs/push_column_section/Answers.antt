@@ -1,9 +1,4 @@
-use Rattle.std.proofs.Common.{◌∙◌, ◌++◌, List, ℕ, ap, map}
-use Rattle.std.specs.List.{flat_map}
-use Rattle.row_core.specs.Contents.{contents_of}
-use Rattle.mps_writer.specs.Entries.{column_text}
-use Rattle.mps_writer.specs.MpsText.{numbered}
-use Rattle.mps_writer.specs.declared.entries.Entry.{Entry}
+use Rattle.mps_writer.proofs.Common.{◌∙◌, ◌++◌, List, ℕ, ap, map, flat_map, contents_of, column_text, numbered, Entry}
 use Rattle.mps_writer.proofs.ColumnText.{columns-section}
 use Rattle.mps_writer.proofs.push_column_section.Goals as goal
 

@@ -1,6 +1,4 @@
-use Rattle.std.proofs.Common.{◌≡◌, ◌+◌, ◌++◌, drop}
-use Rattle.std.specs.List.{flat_map, enumerate_from}
-use Rattle.mps_writer.specs.MpsText.{bound_line, numbered}
+use Rattle.mps_writer.proofs.Common.{◌≡◌, ◌+◌, ◌++◌, drop, flat_map, enumerate_from, bound_line, numbered}
 use Rattle.mps_writer.proofs.push_free_columns.Given as goal
 
 -- with the lines of the columns that are left, the lines so far are those of all columns

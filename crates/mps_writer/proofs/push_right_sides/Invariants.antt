@@ -1,7 +1,4 @@
-use Rattle.std.proofs.Common.{◌≡◌, ◌+◌, ◌++◌, drop, map}
-use Rattle.std.specs.List.{flat_map, enumerate_from}
-use Rattle.row_core.specs.Contents.{contents_of}
-use Rattle.mps_writer.specs.MpsText.{rhs_line, numbered}
+use Rattle.mps_writer.proofs.Common.{◌≡◌, ◌+◌, ◌++◌, drop, map, flat_map, enumerate_from, contents_of, rhs_line, numbered}
 use Rattle.mps_writer.proofs.push_right_sides.Given as goal
 
 -- with the lines of the rows that are left, the lines so far are those of all rows

@@ -1,17 +1,6 @@
 -- What the answer says of the values says it of the multipliers, which are whole numbers over one denominator.
-use Rattle.std.proofs.Common.{ℕ, ℤ, subst}
-use Rattle.std.proofs.lemmas.Result.{IfOk-weaker}
-use Rattle.exact_num.specs.Value.{value_of}
-use Rattle.row_core.specs.declared.RowName.{RowName}
-use Rattle.row_core.specs.declared.Var.{Var}
-use Rattle.row_core.specs.Order.{row_name_cmp}
-use Rattle.row_core.specs.Plans.{value_in}
-use Rattle.certificate_checker.specs.Certificates.{BoundsAll}
-use Rattle.certificate_checker.specs.CostNumbers.{number_of}
-use Rattle.certificate_checker.specs.MultiplierChecks.{bound_conditions, bound_value}
-use Rattle.certificate_checker.specs.Verdicts.{IsVerdict, IfYes}
+use Rattle.certificate_checker.proofs.Common.{ℕ, ℤ, subst, IfOk-weaker, value_of, RowName, Var, row_name_cmp, value_in, BoundsAll, number_of, bound_conditions, bound_value, IsVerdict, IfYes, AreOverSome}
 use Rattle.certificate_checker.proofs.CertificateMeaning.{bound_yes, bound_no, bound_bounds}
-use Rattle.certificate_checker.specs.Denominators.{AreOverSome}
 use Rattle.certificate_checker.proofs.DenominatorLaws.{some_denominator}
 use Rattle.certificate_checker.proofs.bounds.check_bound.Goals as goal
 

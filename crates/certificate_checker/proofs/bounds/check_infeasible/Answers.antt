@@ -1,15 +1,6 @@
 -- What the answer says of the values says it of the multipliers, which are whole numbers over one denominator.
-use Rattle.std.proofs.Common.{ℕ, ℤ, subst}
-use Rattle.std.proofs.lemmas.Result.{IfOk-weaker}
-use Rattle.row_core.specs.declared.RowName.{RowName}
-use Rattle.row_core.specs.declared.Var.{Var}
-use Rattle.row_core.specs.Order.{row_name_cmp}
-use Rattle.row_core.specs.Plans.{value_in}
-use Rattle.certificate_checker.specs.Certificates.{AdmitsNone}
-use Rattle.certificate_checker.specs.MultiplierChecks.{infeasible_conditions, bound_value}
-use Rattle.certificate_checker.specs.Verdicts.{IsVerdict, OnYes}
+use Rattle.certificate_checker.proofs.Common.{ℕ, ℤ, subst, IfOk-weaker, RowName, Var, row_name_cmp, value_in, AdmitsNone, infeasible_conditions, bound_value, IsVerdict, OnYes, AreOverSome}
 use Rattle.certificate_checker.proofs.CertificateMeaning.{infeasible_yes, infeasible_no, infeasible_none}
-use Rattle.certificate_checker.specs.Denominators.{AreOverSome}
 use Rattle.certificate_checker.proofs.DenominatorLaws.{some_denominator}
 use Rattle.certificate_checker.proofs.bounds.check_infeasible.Goals as goal
 

@@ -1,18 +1,6 @@
 -- The search ends at the variable, or between those around it.
-use Rattle.std.proofs.Common.{◌≡◌, ℕ, ◌<◌, ◌≤◌, ℤ, List, Option, Some, None, length, get_or, inl, inr, refl, sym, ap, ap₂, ◌∙◌, subst, arith, to_z, of_z}
-use Rattle.std.specs.Int.{w128}
-use Rattle.std.specs.List.Sorted.{IsNonDecreasingBy}
-use Rattle.std.specs.Ordering.{ordering_index, ordering_reverse}
+use Rattle.certificate_checker.proofs.Common.{◌≡◌, ℕ, ◌<◌, ◌≤◌, ℤ, List, Option, Some, None, length, get_or, inl, inr, refl, sym, ap, ap₂, ◌∙◌, subst, arith, to_z, of_z, w128, IsNonDecreasingBy, ordering_index, ordering_reverse, cases_lt, get_or_default, Rational, value_of, back_in_range, Var, var_cmp, var_cmp_total, var_cmp_exact, seen, with_term, sum_at}
 use Rattle.std.specs.declared.cmp.Ordering.TheVariants.{Less, Equal as Alike, Greater}
-use Rattle.std.proofs.lemmas.Bool.{cases_lt}
-use Rattle.std.proofs.lemmas.List.{get_or_default}
-use Rattle.exact_num.specs.Rational.{Rational}
-use Rattle.exact_num.specs.Value.{value_of}
-use Rattle.exact_num.proofs.RangeLaws.{back_in_range}
-use Rattle.row_core.specs.declared.Var.{Var}
-use Rattle.row_core.specs.Order.{var_cmp}
-use Rattle.row_core.proofs.Orders.{var_cmp_total, var_cmp_exact}
-use Rattle.certificate_checker.specs.ColumnSums.{seen, with_term, sum_at}
 use Rattle.certificate_checker.proofs.ColumnSteps.{none, entry_added, nothing_added, ascends-searchable}
 use Rattle.certificate_checker.proofs.columns.add_entry.Goals as goal
 

@@ -1,20 +1,6 @@
 -- Entry by entry.
-use Rattle.std.proofs.Common.{◌≡◌, ℕ, ℤ, Option, get_or, refl, sym, ap, ap₂, ◌∙◌, subst, to_z, of_z}
-use Rattle.std.specs.Int.{w128}
-use Rattle.std.specs.Ordering.{is_eq}
-use Rattle.exact_num.specs.Range.{InRange}
-use Rattle.exact_num.specs.Rational.{Rational}
-use Rattle.exact_num.specs.Value.{value_of}
-use Rattle.exact_num.specs.Range.{all_fit}
-use Rattle.exact_num.proofs.RangeLaws.{back_in_range}
-use Rattle.row_core.specs.declared.RowName.{RowName}
-use Rattle.row_core.specs.declared.Var.{Var}
-use Rattle.row_core.specs.Numbers.{numbers_of}
-use Rattle.row_core.specs.Order.{var_cmp, row_name_cmp}
-use Rattle.row_core.specs.Plans.{value_in}
-use Rattle.row_core.proofs.CombinedLaws.{row_fits}
+use Rattle.certificate_checker.proofs.Common.{◌≡◌, ℕ, ℤ, Option, get_or, refl, sym, ap, ap₂, ◌∙◌, subst, to_z, of_z, w128, is_eq, InRange, Rational, value_of, all_fit, back_in_range, RowName, Var, numbers_of, var_cmp, row_name_cmp, value_in, row_fits, continued, entries_at, variable_at, sum_at}
 use Rattle.row_core.proofs.WritingSteps.{entries_fit-at, no_entry}
-use Rattle.certificate_checker.specs.ColumnSums.{continued, entries_at, variable_at, sum_at}
 use Rattle.certificate_checker.proofs.ColumnSteps.{chosen, entry_next, entry_done}
 use Rattle.certificate_checker.proofs.columns.add_row.Goals as goal
 

@@ -1,8 +1,5 @@
 -- With the entries that are left, the sum of each column comes to what it comes to with all.
-use Rattle.std.proofs.Common.{◌≡◌, ℕ, ◌<◌, length, drop}
-use Rattle.row_core.specs.Order.{row_name_cmp}
-use Rattle.row_core.specs.Plans.{value_in}
-use Rattle.certificate_checker.specs.ColumnSums.{continued, entries_at, variable_at, sum_at}
+use Rattle.certificate_checker.proofs.Common.{◌≡◌, ℕ, ◌<◌, length, drop, row_name_cmp, value_in, continued, entries_at, variable_at, sum_at}
 use Rattle.certificate_checker.proofs.columns.add_row.Given as goal
 
 abbrev pub invariant-loop-variable : goal.invariant-loop-variable

@@ -1,12 +1,5 @@
 -- Row by row.
-use Rattle.std.proofs.Common.{◌≡◌, ℕ, ◌+◌, ◌<◌, List, Option, length, drop, sym, ap, ◌∙◌, subst}
-use Rattle.std.proofs.lemmas.List.{with_items_is}
-use Rattle.exact_num.specs.declared.fraction.Frac.{Frac}
-use Rattle.exact_num.specs.Rational.{Rational}
-use Rattle.row_core.specs.declared.RowName.{RowName}
-use Rattle.row_core.specs.Order.{row_name_cmp}
-use Rattle.row_core.specs.Plans.{value_in}
-use Rattle.certificate_checker.specs.ColumnSums.{continued, entries_at, variable_at, sum_at}
+use Rattle.certificate_checker.proofs.Common.{◌≡◌, ℕ, ◌+◌, ◌<◌, List, Option, length, drop, sym, ap, ◌∙◌, subst, with_items_is, Frac, Rational, RowName, row_name_cmp, value_in, continued, entries_at, variable_at, sum_at}
 use Rattle.certificate_checker.proofs.ColumnSteps.{AreSumsWith, sums_init, sums_next, sums_done}
 use Rattle.certificate_checker.proofs.columns.column_sums.Goals as goal
 

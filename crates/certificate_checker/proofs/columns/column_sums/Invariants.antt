@@ -1,7 +1,5 @@
 -- With the rows that are left, the sum of each column comes to that of all.
-use Rattle.std.proofs.Common.{drop}
-use Rattle.row_core.specs.Order.{row_name_cmp}
-use Rattle.row_core.specs.Plans.{value_in}
+use Rattle.certificate_checker.proofs.Common.{drop, row_name_cmp, value_in}
 use Rattle.certificate_checker.proofs.ColumnSteps.{AreSumsWith}
 use Rattle.certificate_checker.proofs.columns.column_sums.Given as goal
 

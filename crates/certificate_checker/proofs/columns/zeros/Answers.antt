@@ -1,8 +1,5 @@
 -- So many copies of 0.
-use Rattle.std.proofs.Common.{◌≡◌, ℕ, ◌<◌, List, [], ◌∷◌, ◌++◌, Option, Some, None, length, replicate, get_or, sym, ap, ◌∙◌, arith}
-use Rattle.std.proofs.lemmas.List.{replicate_more, length-replicate, get_or-replicate}
-use Rattle.exact_num.specs.declared.fraction.Frac.{Frac}
-use Rattle.certificate_checker.specs.ColumnSums.{seen}
+use Rattle.certificate_checker.proofs.Common.{◌≡◌, ℕ, ◌<◌, List, [], ◌∷◌, ◌++◌, Option, Some, None, length, replicate, get_or, sym, ap, ◌∙◌, arith, replicate_more, length-replicate, get_or-replicate, Frac, seen}
 use Rattle.certificate_checker.proofs.columns.zeros.Goals as goal
 
 pub loop-variable-preserved : goal.loop-variable-preserved

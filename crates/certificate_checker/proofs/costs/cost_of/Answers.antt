@@ -1,15 +1,5 @@
 -- Variable by variable.
-use Rattle.std.proofs.Common.{◌≡◌, ℤ, pos, true, false, get_or, sym, ap, ◌∙◌}
-use Rattle.exact_num.specs.Range.{all_fit}
-use Rattle.exact_num.specs.Rational.{Rational, whole}
-use Rattle.exact_num.specs.Value.{value_of}
-use Rattle.exact_num.proofs.RangeLaws.{is_ok-false}
-use Rattle.row_core.specs.declared.Var.{Var}
-use Rattle.row_core.specs.Evaluated.{sum_from, sum_from_formed}
-use Rattle.row_core.specs.Order.{var_cmp}
-use Rattle.row_core.specs.Plans.{value_in}
-use Rattle.certificate_checker.specs.Costs.{cost_entries}
-use Rattle.certificate_checker.specs.CostNumbers.{number_of}
+use Rattle.certificate_checker.proofs.Common.{◌≡◌, ℤ, pos, true, false, get_or, sym, ap, ◌∙◌, all_fit, Rational, whole, value_of, is_ok-false, Var, sum_from, sum_from_formed, var_cmp, value_in, cost_entries, number_of}
 use Rattle.certificate_checker.proofs.CostSteps.{cost_sum-next, cost_fits-next, cost_fits-stop, cost_fits-done}
 use Rattle.certificate_checker.proofs.costs.cost_of.Goals as goal
 

@@ -1,13 +1,5 @@
 -- The sum so far and the variables that are left give the sum of all; and form what is left of what all form.
-use Rattle.std.proofs.Common.{◌≡◌, pos, drop}
-use Rattle.exact_num.specs.Range.{all_fit}
-use Rattle.exact_num.specs.Rational.{whole}
-use Rattle.exact_num.specs.Value.{value_of}
-use Rattle.row_core.specs.Order.{var_cmp}
-use Rattle.row_core.specs.Plans.{value_in}
-use Rattle.row_core.specs.Evaluated.{sum_from, sum_from_formed}
-use Rattle.certificate_checker.specs.Costs.{cost_entries}
-use Rattle.certificate_checker.specs.CostNumbers.{number_of}
+use Rattle.certificate_checker.proofs.Common.{◌≡◌, pos, drop, all_fit, whole, value_of, var_cmp, value_in, sum_from, sum_from_formed, cost_entries, number_of}
 use Rattle.certificate_checker.proofs.costs.cost_of.Given as goal
 
 abbrev pub invariant-loop-variable : goal.invariant-loop-variable

@@ -1,11 +1,5 @@
 -- The number that stands in the list, or 0.
-use Rattle.std.proofs.Common.{◌≡◌, ℤ, pos, sym, ap, ◌∙◌, subst, to_z, of_z}
-use Rattle.std.specs.Int.{w128}
-use Rattle.exact_num.specs.Range.{InRange}
-use Rattle.exact_num.proofs.RangeLaws.{back_in_range}
-use Rattle.row_core.specs.Rows.{number_at}
-use Rattle.row_core.proofs.PlanValueLaws.{number_or_zero, number_at-value}
-use Rattle.certificate_checker.specs.CostNumbers.{number_of, IsCost}
+use Rattle.certificate_checker.proofs.Common.{◌≡◌, ℤ, pos, sym, ap, ◌∙◌, subst, to_z, of_z, w128, InRange, back_in_range, number_at, number_or_zero, number_at-value, number_of, IsCost}
 use Rattle.certificate_checker.proofs.CostSteps.{given_fits}
 use Rattle.certificate_checker.proofs.costs.number_of.Goals as goal
 

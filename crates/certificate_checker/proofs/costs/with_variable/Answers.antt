@@ -1,17 +1,6 @@
 -- A number of 0 adds nothing.
-use Rattle.std.proofs.Common.{◌≡◌, ◌≢◌, ℤ, pos, sym, ap, ap₂, ◌∙◌, to_z, of_z}
-use Rattle.std.specs.Int.{w128}
-use Rattle.std.proofs.lemmas.Result.{IfOk-weaker}
-use Rattle.exact_num.specs.Range.{all_fit}
-use Rattle.exact_num.specs.Rational.{Rational, plus, times, whole}
-use Rattle.exact_num.specs.Value.{value_of}
-use Rattle.exact_num.proofs.RangeLaws.{back_in_range}
-use Rattle.row_core.specs.declared.Var.{Var}
-use Rattle.row_core.specs.Evaluated.{term_formed}
-use Rattle.row_core.specs.Order.{var_cmp}
-use Rattle.row_core.specs.Plans.{value_in}
-use Rattle.certificate_checker.specs.CostNumbers.{number_of}
-use Rattle.certificate_checker.proofs.CostSteps.{none_fits, none_sum, one_fits, one_sum}
+use Rattle.certificate_checker.proofs.Common.{◌≡◌, ◌≢◌, ℤ, pos, sym, ap, ap₂, ◌∙◌, to_z, of_z, w128, IfOk-weaker, all_fit, Rational, plus, times, whole, value_of, back_in_range, Var, term_formed, var_cmp, value_in, number_of}
+use Rattle.certificate_checker.proofs.CostSteps.{none_fits, one_fits}
 use Rattle.certificate_checker.proofs.costs.with_variable.Goals as goal
 
 pub returns-then-number-eq0-clause-refused : goal.returns-then-number-eq0-clause-refused

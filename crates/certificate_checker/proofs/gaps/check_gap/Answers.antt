@@ -1,8 +1,5 @@
 -- What the answer says of the condition says it of the gap.
-use Rattle.exact_num.specs.Rational.{minus}
-use Rattle.exact_num.specs.Value.{value_of}
-use Rattle.std.proofs.Common.{[], ◌∷◌}
-use Rattle.certificate_checker.specs.Gaps.{gap_condition}
+use Rattle.certificate_checker.proofs.Common.{minus, value_of, [], ◌∷◌, gap_condition}
 use Rattle.certificate_checker.proofs.GapLaws.{gap_yes, gap_no}
 use Rattle.certificate_checker.proofs.VerdictLaws.{verdict-is}
 use Rattle.certificate_checker.proofs.gaps.check_gap.Goals as goal

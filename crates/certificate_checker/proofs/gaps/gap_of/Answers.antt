@@ -1,16 +1,5 @@
 -- The gap and what is allowed as they were formed.
-use Rattle.std.proofs.Common.{◌≡◌, ◌<◌, ◌^◌, ℕ, ℤ, pos, true, false, sym, ap, ap₂, ◌∙◌, subst, arith, to_z, of_z}
-use Rattle.std.specs.Prelude.{◌≤ℤ◌, int_lt}
-use Rattle.std.specs.Int.{w128}
-use Rattle.std.specs.Int.Signed.{le_z}
-use Rattle.std.specs.Ordering.{is_le}
-use Rattle.exact_num.specs.Formed.{product_formed}
-use Rattle.exact_num.specs.Range.{InRange, all_fit}
-use Rattle.exact_num.specs.Rational.{Rational, lowest, minus, times, order_of}
-use Rattle.exact_num.specs.Value.{value_of}
-use Rattle.exact_num.proofs.RangeLaws.{back_in_range}
-use Rattle.certificate_checker.specs.Gaps.{part_of}
-use Rattle.certificate_checker.specs.PlanChecks.{absolute}
+use Rattle.certificate_checker.proofs.Common.{◌≡◌, ◌<◌, ◌^◌, ℕ, ℤ, pos, true, false, sym, ap, ap₂, ◌∙◌, subst, arith, to_z, of_z, ◌≤ℤ◌, int_lt, w128, le_z, is_le, product_formed, InRange, all_fit, Rational, lowest, minus, times, order_of, value_of, back_in_range, part_of, absolute}
 use Rattle.certificate_checker.proofs.GapLaws.{gap_wide_at_once, gap_wide_at_last, gap_passes_below, gap_passes_above, gap_fails, at_most, not_above, above}
 use Rattle.certificate_checker.proofs.gaps.gap_of.Goals as goal
 

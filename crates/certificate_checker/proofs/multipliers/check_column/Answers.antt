@@ -1,15 +1,5 @@
 -- The sum, the cost's number, and their difference as they were formed.
-use Rattle.std.proofs.Common.{◌≡◌, ℤ, true, false, List, sym, ap, ap₂, ◌∙◌, to_z, of_z}
-use Rattle.std.specs.Int.{w128}
-use Rattle.exact_num.specs.Rational.{Rational, whole}
-use Rattle.exact_num.specs.Value.{value_of}
-use Rattle.exact_num.proofs.RangeLaws.{back_in_range}
-use Rattle.row_core.specs.declared.Row.{Row}
-use Rattle.row_core.specs.declared.RowName.{RowName}
-use Rattle.row_core.specs.declared.Var.{Var}
-use Rattle.certificate_checker.specs.ColumnSums.{seen}
-use Rattle.certificate_checker.specs.CostNumbers.{number_of}
-use Rattle.certificate_checker.specs.MultiplierChecks.{is_within}
+use Rattle.certificate_checker.proofs.Common.{◌≡◌, ℤ, true, false, List, sym, ap, ap₂, ◌∙◌, to_z, of_z, w128, Rational, whole, value_of, back_in_range, Row, RowName, Var, seen, number_of, is_within}
 use Rattle.certificate_checker.proofs.MultiplierSteps.{column_wide, column_passes, column_fails, column_amount_wide}
 use Rattle.certificate_checker.proofs.multipliers.check_column.Goals as goal
 

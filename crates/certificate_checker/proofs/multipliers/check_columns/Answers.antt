@@ -1,15 +1,5 @@
 -- Variable by variable.
-use Rattle.std.proofs.Common.{◌≡◌, ℕ, ◌<◌, List, None, length, map, get_or, refl, sym, ap, ◌∙◌, arith}
-use Rattle.std.proofs.lemmas.List.{get_or_default}
-use Rattle.std.proofs.lemmas.Result.{err_from_is_err_and}
-use Rattle.exact_num.specs.Rational.{Rational}
-use Rattle.row_core.specs.declared.Row.{Row}
-use Rattle.row_core.specs.declared.RowName.{RowName}
-use Rattle.row_core.specs.declared.Var.{Var}
-use Rattle.certificate_checker.specs.ColumnSums.{seen, variable_at, column_partial, AreColumnSums}
-use Rattle.certificate_checker.specs.Conditions.{Condition}
-use Rattle.certificate_checker.specs.CostNumbers.{number_of}
-use Rattle.certificate_checker.specs.MultiplierChecks.{column_condition}
+use Rattle.certificate_checker.proofs.Common.{◌≡◌, ℕ, ◌<◌, List, None, length, map, get_or, refl, sym, ap, ◌∙◌, arith, get_or_default, err_from_is_err_and, Rational, Row, RowName, Var, seen, variable_at, column_partial, AreColumnSums, Condition, number_of, column_condition}
 use Rattle.certificate_checker.proofs.ColumnSteps.{none}
 use Rattle.certificate_checker.proofs.ConditionLaws.{Passes-from, loop_next, loop_halts, loop_done}
 use Rattle.certificate_checker.proofs.multipliers.check_columns.Goals as goal

@@ -1,11 +1,5 @@
 -- Whatever rows the sums are of, the columns so far pass: what all of them come to is what the rest of them comes to.
-use Rattle.std.proofs.Common.{List, drop, map}
-use Rattle.exact_num.specs.Rational.{Rational}
-use Rattle.row_core.specs.declared.Row.{Row}
-use Rattle.row_core.specs.declared.RowName.{RowName}
-use Rattle.certificate_checker.specs.ColumnSums.{AreColumnSums}
-use Rattle.certificate_checker.specs.CostNumbers.{number_of}
-use Rattle.certificate_checker.specs.MultiplierChecks.{column_condition}
+use Rattle.certificate_checker.proofs.Common.{List, drop, map, Rational, Row, RowName, AreColumnSums, number_of, column_condition}
 use Rattle.certificate_checker.proofs.ConditionLaws.{Continues}
 use Rattle.certificate_checker.proofs.multipliers.check_columns.Given as goal
 

@@ -1,15 +1,5 @@
 -- The signs, the columns and the sum in turn.
-use Rattle.std.proofs.Common.{ℤ, List, [], ◌∷◌, map}
-use Rattle.std.proofs.lemmas.Result.{err_from_is_err_and, on_ok_weaker, IfErr-weaker}
-use Rattle.exact_num.specs.Rational.{Rational}
-use Rattle.row_core.specs.declared.RowName.{RowName}
-use Rattle.row_core.specs.declared.Var.{Var}
-use Rattle.row_core.specs.Order.{row_name_cmp}
-use Rattle.row_core.specs.Plans.{value_in}
-use Rattle.certificate_checker.specs.Conditions.{Condition}
-use Rattle.certificate_checker.specs.CostNumbers.{number_of}
-use Rattle.certificate_checker.specs.Halts.{IsHalt}
-use Rattle.certificate_checker.specs.MultiplierChecks.{multiplier_condition, column_condition, bound_condition, multiplier_conditions}
+use Rattle.certificate_checker.proofs.Common.{ℤ, List, [], ◌∷◌, map, err_from_is_err_and, on_ok_weaker, IfErr-weaker, Rational, RowName, Var, row_name_cmp, value_in, Condition, number_of, IsHalt, multiplier_condition, column_condition, bound_condition, multiplier_conditions}
 use Rattle.certificate_checker.proofs.ConditionLaws.{halts_in_first, halts_in_second, halts_in_third, pass_all_three}
 use Rattle.certificate_checker.proofs.multipliers.check_multipliers.Goals as goal
 

@@ -1,12 +1,5 @@
 -- The multiplier as it was looked up.
-use Rattle.std.proofs.Common.{◌≡◌, true, false, sym, ap, ◌∙◌}
-use Rattle.exact_num.specs.Rational.{Rational}
-use Rattle.exact_num.specs.Value.{value_of}
-use Rattle.exact_num.proofs.RangeLaws.{back_in_range}
-use Rattle.row_core.specs.declared.RowName.{RowName}
-use Rattle.row_core.specs.Order.{row_name_cmp}
-use Rattle.row_core.specs.Plans.{value_in}
-use Rattle.certificate_checker.specs.MultiplierChecks.{is_signed}
+use Rattle.certificate_checker.proofs.Common.{◌≡◌, true, false, sym, ap, ◌∙◌, Rational, value_of, back_in_range, RowName, row_name_cmp, value_in, is_signed}
 use Rattle.certificate_checker.proofs.MultiplierSteps.{multiplier_passes, multiplier_fails}
 use Rattle.certificate_checker.proofs.multipliers.check_sign.Goals as goal
 

@@ -1,10 +1,5 @@
 -- The sum as it was formed.
-use Rattle.std.proofs.Common.{◌≡◌, true, false, sym, ap, ◌∙◌}
-use Rattle.exact_num.specs.Value.{value_of}
-use Rattle.exact_num.proofs.RangeLaws.{back_in_range}
-use Rattle.row_core.specs.Order.{row_name_cmp}
-use Rattle.row_core.specs.Plans.{value_in}
-use Rattle.certificate_checker.specs.MultiplierChecks.{bound_passes}
+use Rattle.certificate_checker.proofs.Common.{◌≡◌, true, false, sym, ap, ◌∙◌, value_of, back_in_range, row_name_cmp, value_in, bound_passes}
 use Rattle.certificate_checker.proofs.MultiplierSteps.{bound_wide, bound_is_passed, bound_fails}
 use Rattle.certificate_checker.proofs.multipliers.check_sum.Goals as goal
 

@@ -1,8 +1,5 @@
 -- The answer of what was found with the sums.
-use Rattle.row_core.specs.Order.{row_name_cmp}
-use Rattle.row_core.specs.Plans.{value_in}
-use Rattle.certificate_checker.specs.CostNumbers.{number_of}
-use Rattle.certificate_checker.specs.MultiplierChecks.{bound_value, multiplier_conditions}
+use Rattle.certificate_checker.proofs.Common.{row_name_cmp, value_in, number_of, bound_value, multiplier_conditions}
 use Rattle.certificate_checker.proofs.VerdictLaws.{verdict-is}
 use Rattle.certificate_checker.proofs.multipliers.multiplier_verdict.Goals as goal
 

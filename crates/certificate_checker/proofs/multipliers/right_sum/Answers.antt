@@ -1,16 +1,5 @@
 -- Row by row.
-use Rattle.std.proofs.Common.{◌≡◌, ℤ, pos, true, false, sym, ap, ap₂, ◌∙◌, subst, to_z, of_z}
-use Rattle.std.specs.Int.{w128}
-use Rattle.exact_num.specs.Range.{InRange, all_fit}
-use Rattle.exact_num.specs.Rational.{Rational, whole, plus, times}
-use Rattle.exact_num.specs.Value.{value_of}
-use Rattle.exact_num.proofs.RangeLaws.{back_in_range, is_ok-false}
-use Rattle.row_core.specs.declared.RowName.{RowName}
-use Rattle.row_core.specs.Evaluated.{sum_from, term_formed, sum_from_formed}
-use Rattle.row_core.specs.Order.{row_name_cmp}
-use Rattle.row_core.specs.Plans.{value_in}
-use Rattle.row_core.proofs.CombinedLaws.{rhs_fits}
-use Rattle.certificate_checker.specs.MultiplierChecks.{right_sides}
+use Rattle.certificate_checker.proofs.Common.{◌≡◌, ℤ, pos, true, false, sym, ap, ap₂, ◌∙◌, subst, to_z, of_z, w128, InRange, all_fit, Rational, whole, plus, times, value_of, back_in_range, is_ok-false, RowName, sum_from, term_formed, sum_from_formed, row_name_cmp, value_in, rhs_fits, right_sides}
 use Rattle.certificate_checker.proofs.MultiplierSteps.{right_sum-next, right_fits-next, right_fits-stop, right_fits-done}
 use Rattle.certificate_checker.proofs.multipliers.right_sum.Goals as goal
 

@@ -1,12 +1,5 @@
 -- The sum so far and the rows that are left give the sum of all; and form what is left of what all form.
-use Rattle.std.proofs.Common.{◌≡◌, pos, drop}
-use Rattle.exact_num.specs.Range.{all_fit}
-use Rattle.exact_num.specs.Rational.{whole}
-use Rattle.exact_num.specs.Value.{value_of}
-use Rattle.row_core.specs.Evaluated.{sum_from, sum_from_formed}
-use Rattle.row_core.specs.Order.{row_name_cmp}
-use Rattle.row_core.specs.Plans.{value_in}
-use Rattle.certificate_checker.specs.MultiplierChecks.{right_sides}
+use Rattle.certificate_checker.proofs.Common.{◌≡◌, pos, drop, all_fit, whole, value_of, sum_from, sum_from_formed, row_name_cmp, value_in, right_sides}
 use Rattle.certificate_checker.proofs.multipliers.right_sum.Given as goal
 
 abbrev pub invariant-loop-row : goal.invariant-loop-row

@@ -1,12 +1,5 @@
 -- What the answer says of the values says it of the direction, which is whole numbers over one denominator.
-use Rattle.std.proofs.Common.{ℤ, map, subst}
-use Rattle.row_core.specs.declared.Var.{Var}
-use Rattle.row_core.specs.Order.{var_cmp}
-use Rattle.row_core.specs.Plans.{valued, value_in}
-use Rattle.certificate_checker.specs.CostNumbers.{number_of}
-use Rattle.certificate_checker.specs.Costs.{cost_value}
-use Rattle.certificate_checker.specs.PlanChecks.{direction_conditions}
-use Rattle.certificate_checker.specs.Denominators.{AreOverSome}
+use Rattle.certificate_checker.proofs.Common.{ℤ, map, subst, Var, var_cmp, valued, value_in, number_of, cost_value, direction_conditions, AreOverSome}
 use Rattle.certificate_checker.proofs.DenominatorLaws.{some_denominator}
 use Rattle.certificate_checker.proofs.PlanMeaning.{direction_yes, direction_no, direction_endless}
 use Rattle.certificate_checker.proofs.VerdictLaws.{verdict-is}

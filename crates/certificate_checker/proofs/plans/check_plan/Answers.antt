@@ -1,8 +1,5 @@
 -- What the answer says of the values says it of the plan.
-use Rattle.row_core.specs.Order.{var_cmp}
-use Rattle.row_core.specs.Plans.{value_in}
-use Rattle.certificate_checker.specs.Costs.{model_cost, cost_value}
-use Rattle.certificate_checker.specs.PlanChecks.{plan_conditions}
+use Rattle.certificate_checker.proofs.Common.{var_cmp, value_in, model_cost, cost_value, plan_conditions}
 use Rattle.certificate_checker.proofs.PlanMeaning.{plan_yes, plan_no}
 use Rattle.certificate_checker.proofs.VerdictLaws.{verdict-is}
 use Rattle.certificate_checker.proofs.plans.check_plan.Goals as goal

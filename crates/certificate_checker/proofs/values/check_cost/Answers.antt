@@ -1,13 +1,5 @@
 -- The cost as it was formed.
-use Rattle.std.proofs.Common.{◌≡◌, ℤ, pos, true, false, sym, ap, ◌∙◌}
-use Rattle.exact_num.specs.Rational.{Rational}
-use Rattle.exact_num.specs.Value.{value_of}
-use Rattle.exact_num.proofs.RangeLaws.{back_in_range}
-use Rattle.row_core.specs.declared.Var.{Var}
-use Rattle.row_core.specs.Order.{var_cmp}
-use Rattle.row_core.specs.Plans.{value_in}
-use Rattle.certificate_checker.specs.CostNumbers.{number_of}
-use Rattle.certificate_checker.specs.PlanChecks.{cost_passes}
+use Rattle.certificate_checker.proofs.Common.{◌≡◌, ℤ, pos, true, false, sym, ap, ◌∙◌, Rational, value_of, back_in_range, Var, var_cmp, value_in, number_of, cost_passes}
 use Rattle.certificate_checker.proofs.ValueChecks.{cost_wide, cost_is_passed, cost_fails}
 use Rattle.certificate_checker.proofs.values.check_cost.Goals as goal
 

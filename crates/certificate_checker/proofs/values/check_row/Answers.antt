@@ -1,17 +1,5 @@
 -- The row at the values, and its right side as it was read.
-use Rattle.std.proofs.Common.{◌≡◌, ℤ, pos, true, false, [], ◌∷◌, sym, ap, ◌∙◌, to_z, of_z, subst}
-use Rattle.std.specs.Int.{w128}
-use Rattle.exact_num.specs.Range.{InRange, all_fit}
-use Rattle.exact_num.specs.Rational.{Rational}
-use Rattle.exact_num.specs.Value.{value_of}
-use Rattle.exact_num.proofs.RangeLaws.{back_in_range}
-use Rattle.row_core.specs.declared.Var.{Var}
-use Rattle.row_core.specs.Evaluated.{evaluated, evaluated_formed}
-use Rattle.row_core.specs.Order.{var_cmp}
-use Rattle.row_core.specs.Plans.{value_in}
-use Rattle.row_core.specs.Statements.{stands}
-use Rattle.certificate_checker.specs.Conditions.{IsWideAt}
-use Rattle.certificate_checker.specs.PlanChecks.{right_of, row_condition}
+use Rattle.certificate_checker.proofs.Common.{◌≡◌, ℤ, pos, true, false, [], ◌∷◌, sym, ap, ◌∙◌, to_z, of_z, subst, w128, InRange, all_fit, Rational, value_of, back_in_range, Var, evaluated, evaluated_formed, var_cmp, value_in, stands, IsWideAt, right_of, row_condition}
 use Rattle.certificate_checker.proofs.ConditionLaws.{Passes-alone}
 use Rattle.certificate_checker.proofs.ValueChecks.{row_passes, row_fails, row_wide}
 use Rattle.certificate_checker.proofs.values.check_row.Goals as goal

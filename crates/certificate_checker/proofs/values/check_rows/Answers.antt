@@ -1,11 +1,5 @@
 -- Row by row.
-use Rattle.std.proofs.Common.{map}
-use Rattle.std.proofs.lemmas.Result.{err_from_is_err_and}
-use Rattle.row_core.specs.declared.Row.{Row}
-use Rattle.row_core.specs.Order.{var_cmp}
-use Rattle.row_core.specs.Plans.{value_in}
-use Rattle.certificate_checker.specs.Conditions.{Condition}
-use Rattle.certificate_checker.specs.PlanChecks.{row_condition}
+use Rattle.certificate_checker.proofs.Common.{map, err_from_is_err_and, Row, var_cmp, value_in, Condition, row_condition}
 use Rattle.certificate_checker.proofs.ConditionLaws.{Passes-from, loop_next, loop_halts, loop_done}
 use Rattle.certificate_checker.proofs.values.check_rows.Goals as goal
 

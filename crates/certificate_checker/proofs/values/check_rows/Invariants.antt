@@ -1,8 +1,5 @@
 -- The rows so far hold: what all of them come to is what the rest of them comes to.
-use Rattle.std.proofs.Common.{drop, map}
-use Rattle.row_core.specs.Order.{var_cmp}
-use Rattle.row_core.specs.Plans.{value_in}
-use Rattle.certificate_checker.specs.PlanChecks.{row_condition}
+use Rattle.certificate_checker.proofs.Common.{drop, map, var_cmp, value_in, row_condition}
 use Rattle.certificate_checker.proofs.ConditionLaws.{Continues}
 use Rattle.certificate_checker.proofs.values.check_rows.Given as goal
 

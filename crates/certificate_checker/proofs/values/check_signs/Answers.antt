@@ -1,19 +1,8 @@
 -- Variable by variable.
-use Rattle.std.proofs.Common.{◌≡◌, ℤ, pos, true, false, map, refl, sym, ap, ◌∙◌, get_or}
-use Rattle.std.specs.Int.Signed.{lt_z}
-use Rattle.exact_num.specs.Rational.{Rational}
-use Rattle.exact_num.specs.Value.{value_of}
-use Rattle.exact_num.proofs.RangeLaws.{back_in_range}
-use Rattle.row_core.specs.Kinds.{kind_is_free}
-use Rattle.certificate_checker.specs.declared.verdicts.Halt.TheVariants.{No}
+use Rattle.certificate_checker.proofs.Common.{◌≡◌, ℤ, pos, true, false, map, refl, sym, ap, ◌∙◌, get_or, lt_z, Rational, value_of, back_in_range, kind_is_free, No, Var, var_cmp, value_in, Condition, sign_condition}
 use Rattle.certificate_checker.specs.declared.verdicts.Rejection.TheVariants.{WrongSign}
 use Rattle.certificate_checker.proofs.ValueChecks.{sign_passes, sign_passes_free, sign_fails}
 use Rattle.certificate_checker.proofs.values.check_signs.Goals.{else-not-may_be_negative-via-then-not-may_be_negative+else-value-lt0, else-not-may_be_negative-via-else-not-may_be_negative}
-use Rattle.row_core.specs.declared.Var.{Var}
-use Rattle.row_core.specs.Order.{var_cmp}
-use Rattle.row_core.specs.Plans.{value_in}
-use Rattle.certificate_checker.specs.Conditions.{Condition}
-use Rattle.certificate_checker.specs.PlanChecks.{sign_condition}
 use Rattle.certificate_checker.proofs.ConditionLaws.{Passes, loop_next, loop_halts, loop_done}
 use Rattle.certificate_checker.proofs.values.check_signs.Goals as goal
 

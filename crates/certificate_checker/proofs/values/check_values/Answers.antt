@@ -1,16 +1,5 @@
 -- The rows, the signs and the cost in turn.
-use Rattle.std.proofs.Common.{ℤ, List, [], ◌∷◌, map}
-use Rattle.std.proofs.lemmas.Result.{err_from_is_err_and, on_ok_weaker, IfErr-weaker}
-use Rattle.exact_num.specs.Rational.{Rational}
-use Rattle.row_core.specs.declared.Row.{Row}
-use Rattle.row_core.specs.declared.Var.{Var}
-use Rattle.row_core.specs.Order.{var_cmp}
-use Rattle.row_core.specs.Plans.{value_in}
-use Rattle.certificate_checker.specs.declared.values.Subject.{Subject}
-use Rattle.certificate_checker.specs.Conditions.{Condition, AllPass}
-use Rattle.certificate_checker.specs.CostNumbers.{number_of}
-use Rattle.certificate_checker.specs.Halts.{IsHalt}
-use Rattle.certificate_checker.specs.PlanChecks.{row_condition, sign_condition, cost_condition, value_conditions}
+use Rattle.certificate_checker.proofs.Common.{ℤ, List, [], ◌∷◌, map, err_from_is_err_and, on_ok_weaker, IfErr-weaker, Rational, Row, Var, var_cmp, value_in, Subject, Condition, AllPass, number_of, IsHalt, row_condition, sign_condition, cost_condition, value_conditions}
 use Rattle.certificate_checker.proofs.ConditionLaws.{halts_in_first, halts_in_second, halts_in_third, pass_all_three}
 use Rattle.certificate_checker.proofs.values.check_values.Goals as goal
 

@@ -1,18 +1,7 @@
 -- The checker's answer.
-use Rattle.std.proofs.Common.{◌≡◌, ℕ, ℤ, sym, ap, ◌∙◌, subst}
+use Rattle.certified_answers.proofs.Common.{◌≡◌, ℕ, ℤ, sym, ap, ◌∙◌, subst, value_of, RowName, Var, IsOver, AreMultipliersOver, BoundsAll, Proves, bound_of, number_of, bound_conditions, IfYes, IsVerdict, OnNo, weight_at, weight_of, IsFoundBoundFor, IsBoundFor, multiplier_bound}
 use Rattle.std.specs.Prelude.{pos}
-use Rattle.exact_num.specs.Value.{value_of}
-use Rattle.row_core.specs.declared.RowName.{RowName}
-use Rattle.row_core.specs.declared.Var.{Var}
-use Rattle.row_core.specs.Values.{IsOver}
 use Rattle.certificate_checker.specs.declared.verdicts.Verdict.TheVariants.{Yes}
-use Rattle.certificate_checker.specs.Certificates.{AreMultipliersOver, BoundsAll, Proves, bound_of}
-use Rattle.certificate_checker.specs.CostNumbers.{number_of}
-use Rattle.certificate_checker.specs.MultiplierChecks.{bound_conditions}
-use Rattle.certificate_checker.specs.Verdicts.{IfYes, IsVerdict, OnNo}
-use Rattle.certified_answers.specs.Costs.{weight_at, weight_of}
-use Rattle.certified_answers.specs.Found.{IsFoundBoundFor}
-use Rattle.certified_answers.specs.Worth.{IsBoundFor, multiplier_bound}
 use Rattle.certified_answers.proofs.accepting.accepted_bound.Goals as goal
 
 pub returns-in-Yes-clause-bound : goal.returns-in-Yes-clause-bound

@@ -1,10 +1,5 @@
 -- The checker's answer.
-use Rattle.std.proofs.Common.{◌≡◌, ℤ, sym, ap, ◌∙◌, subst}
-use Rattle.row_core.specs.declared.Var.{Var}
-use Rattle.certificate_checker.specs.CostNumbers.{number_of}
-use Rattle.certified_answers.specs.Costs.{weight_at, weight_of}
-use Rattle.certified_answers.specs.Found.{IsFoundDescentFor}
-use Rattle.certified_answers.specs.Worth.{IsDescentFor}
+use Rattle.certified_answers.proofs.Common.{◌≡◌, ℤ, sym, ap, ◌∙◌, subst, Var, number_of, weight_at, weight_of, IsFoundDescentFor, IsDescentFor}
 use Rattle.certified_answers.proofs.accepting.accepted_direction.Goals as goal
 
 pub returns-in-Yes-clause-descent : goal.returns-in-Yes-clause-descent

@@ -1,14 +1,6 @@
 -- The checker's answer.
-use Rattle.std.proofs.Common.{ℕ, ℤ, subst}
+use Rattle.certified_answers.proofs.Common.{ℕ, ℤ, subst, value_of, RowName, IsOver, AdmitsNone, AreMultipliersOver, Refutes, bound_of, AllPass, infeasible_conditions, IfYes, IsVerdict, OnNo, OnYes, multiplier_bound}
 use Rattle.std.specs.Prelude.{pos}
-use Rattle.exact_num.specs.Value.{value_of}
-use Rattle.row_core.specs.declared.RowName.{RowName}
-use Rattle.row_core.specs.Values.{IsOver}
-use Rattle.certificate_checker.specs.Certificates.{AdmitsNone, AreMultipliersOver, Refutes, bound_of}
-use Rattle.certificate_checker.specs.Conditions.{AllPass}
-use Rattle.certificate_checker.specs.MultiplierChecks.{infeasible_conditions}
-use Rattle.certificate_checker.specs.Verdicts.{IfYes, IsVerdict, OnNo, OnYes}
-use Rattle.certified_answers.specs.Worth.{multiplier_bound}
 use Rattle.certified_answers.proofs.accepting.accepted_refutation.Goals as goal
 
 pub returns-in-Yes-clause-refutation : goal.returns-in-Yes-clause-refutation

@@ -1,6 +1,4 @@
-use Rattle.std.proofs.Common.{subst}
-use Rattle.row_core.specs.Order.{row_name_cmp}
-use Rattle.certificate_checker.specs.Denominators.{AreOverSome}
+use Rattle.certified_answers.proofs.Common.{subst, row_name_cmp, AreOverSome}
 use Rattle.certified_answers.proofs.KeyedLaws.{ascends-valued}
 use Rattle.certified_answers.proofs.laws.multiplier_laws.Goals as goal
 

@@ -1,8 +1,4 @@
-use Rattle.std.proofs.Common.{subst}
-use Rattle.exact_num.specs.Rational.{IsLowest}
-use Rattle.row_core.specs.Order.{var_cmp}
-use Rattle.row_core.specs.Plans.{value_in}
-use Rattle.certificate_checker.specs.Denominators.{AreOverSome}
+use Rattle.certified_answers.proofs.Common.{subst, IsLowest, var_cmp, value_in, AreOverSome}
 use Rattle.certified_answers.proofs.KeyedLaws.{ascends-valued, values-lowest}
 use Rattle.certified_answers.proofs.laws.plan_laws.Goals as goal
 

@@ -1,7 +1,4 @@
-use Rattle.std.proofs.Common.{◌≡◌, drop}
-use Rattle.std.specs.List.{list_all}
-use Rattle.command_words.specs.ClapWords.{given_of}
-use Rattle.command_words.specs.Forms.{described, suits}
+use Rattle.command_words.proofs.Common.{◌≡◌, drop, list_all, given_of, described, suits}
 use Rattle.command_words.proofs.forms.all_suit.Given as goal
 
 abbrev pub invariant-loop-option : goal.invariant-loop-option

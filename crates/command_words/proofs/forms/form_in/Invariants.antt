@@ -1,6 +1,4 @@
-use Rattle.std.proofs.Common.{◌≡◌, drop, map}
-use Rattle.command_words.specs.ClapWords.{given_of}
-use Rattle.command_words.specs.Forms.{described, form_in}
+use Rattle.command_words.proofs.Common.{◌≡◌, drop, map, given_of, described, form_in}
 use Rattle.command_words.proofs.forms.form_in.Given as goal
 
 abbrev pub invariant-loop-form : goal.invariant-loop-form

@@ -1,8 +1,4 @@
-use Rattle.std.proofs.Common.{◌∙◌, rules, tests}
-use Rattle.std.specs.Str.{bytes_eq}
-use Rattle.std.proofs.lemmas.Iterator.{YieldsList-from_slice}
-use Rattle.std.proofs.lemmas.Iterator.Search.{any_from_yields_List}
-use Rattle.clap.proofs.WalkLemmas.{list_any-map}
+use Rattle.command_words.proofs.Common.{◌∙◌, rules, tests, bytes_eq, YieldsList-from_slice, any_from_yields_List, list_any-map}
 use Rattle.command_words.proofs.forms.is_among.Goals as goal
 
 pub returns : goal.returns

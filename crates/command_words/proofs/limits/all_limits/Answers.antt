@@ -1,8 +1,5 @@
 -- Text by text.
-use Rattle.std.proofs.Common.{◌≡◌, ◌∙◌, ◌+◌, ◌++◌, ◌<◌, ℕ, ℤ, List, [], ◌∷◌, Bor, length, map, drop, sym, ap}
-use Rattle.std.specs.Prelude.{slice_index_or}
-use Rattle.std.proofs.lemmas.List.{at_drop_more, at_drop_all}
-use Rattle.command_words.specs.LimitLists.{limit_of}
+use Rattle.command_words.proofs.Common.{◌≡◌, ◌∙◌, ◌+◌, ◌++◌, ◌<◌, ℕ, ℤ, List, [], ◌∷◌, Bor, length, map, drop, sym, ap, slice_index_or, at_drop_more, at_drop_all, limit_of}
 use Rattle.exact_num.proofs.RangeLaws.{back_in_range}
 use Rattle.command_words.proofs.LimitLaws.{limit_in_range}
 use Rattle.command_words.proofs.LimitTurns.{read_after, read_end, read_more, read_none}

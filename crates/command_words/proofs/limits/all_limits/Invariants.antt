@@ -1,6 +1,5 @@
 -- With the texts that are left, the limits so far are those of all texts.
-use Rattle.std.proofs.Common.{◌≡◌, drop, map}
-use Rattle.command_words.specs.LimitLists.{all_of, limit_of}
+use Rattle.command_words.proofs.Common.{◌≡◌, drop, map, all_of, limit_of}
 use Rattle.command_words.proofs.LimitTurns.{read_after}
 use Rattle.command_words.proofs.limits.all_limits.Given as goal
 

@@ -1,5 +1,4 @@
-use Rattle.std.proofs.Common.{◌∙◌, subst}
-use Rattle.scaled_decimals.specs.DecimalReading.{Reads}
+use Rattle.command_words.proofs.Common.{◌∙◌, subst, Reads}
 use Rattle.command_words.proofs.LimitLaws.{limit_reads}
 use Rattle.command_words.proofs.limits.limit_of.Goals as goal
 

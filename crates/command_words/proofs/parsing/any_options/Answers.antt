@@ -1,10 +1,5 @@
 -- Option by option.
-use Rattle.std.proofs.Common.{◌∙◌, ◌+◌, [], false, map, sym, ap, drop}
-use Rattle.std.specs.Prelude.{fold}
-use Rattle.std.proofs.lemmas.List.{at_drop_more}
-use Rattle.clap.specs.Words.{app_of, with_rule}
-use Rattle.command_words.specs.ClapWords.{rule_named}
-use Rattle.command_words.specs.Forms.{entry_of}
+use Rattle.command_words.proofs.Common.{◌∙◌, ◌+◌, [], false, map, sym, ap, drop, fold, at_drop_more, app_of, with_rule, rule_named, entry_of}
 use Rattle.command_words.proofs.parsing.any_options.Goals as goal
 
 pub loop-option-preserved : goal.loop-option-preserved

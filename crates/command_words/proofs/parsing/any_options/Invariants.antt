@@ -1,8 +1,4 @@
-use Rattle.std.proofs.Common.{◌≡◌, drop, map}
-use Rattle.std.specs.Prelude.{fold}
-use Rattle.clap.specs.Words.{app_of, with_rule}
-use Rattle.command_words.specs.ClapWords.{files_only, rule_named}
-use Rattle.command_words.specs.Forms.{entry_of}
+use Rattle.command_words.proofs.Common.{◌≡◌, drop, map, fold, app_of, with_rule, files_only, rule_named, entry_of}
 use Rattle.command_words.proofs.parsing.any_options.Given as goal
 
 abbrev pub invariant-loop-option : goal.invariant-loop-option

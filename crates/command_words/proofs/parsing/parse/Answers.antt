@@ -1,10 +1,5 @@
-use Rattle.std.proofs.Common.{◌≡◌, ◌∙◌, Some, ap, inl, inr, map, option_map}
+use Rattle.command_words.proofs.Common.{◌≡◌, ◌∙◌, Some, ap, inl, inr, map, option_map, string_bytes, app_of, found_of, rows_of, first_value-rows, raw_values-rows, given_of, value_by}
 use Rattle.std.specs.Prelude.{codes, unwrap_or, []}
-use Rattle.std.specs.String.{string_bytes}
-use Rattle.clap.specs.Words.{app_of, found_of, rows_of}
-use Rattle.clap.proofs.WalkLemmas.{first_value-rows, raw_values-rows}
-use Rattle.command_words.specs.ClapWords.{given_of}
-use Rattle.command_words.specs.Forms.{value_by}
 use Rattle.command_words.proofs.ClapLaws.{is_taken, is_refused, simple, simple_and_free}
 use Rattle.command_words.proofs.ClapReads.{clap_gives, given_rows, words_utf8}
 use Rattle.command_words.proofs.parsing.parse.Goals as goal

@@ -1,8 +1,6 @@
 use Rattle.std.proofs.Common.{◌≡◌, ◌∙◌, ap, ap₂, rules, true, codes}
 use Rattle.std.proofs.lemmas.Result.{IfOk-weaker}
-use Rattle.clap.specs.Words.{App, app_of, new_app, rule_of, with_rule}
-use Rattle.clap.specs.Simple.{app_of_fields, on_top}
-use Rattle.command_words.specs.ClapWords.{file_rule}
+use Rattle.command_words.proofs.Common.{App, app_of, new_app, rule_of, with_rule, app_of_fields, on_top, file_rule}
 use Rattle.command_words.proofs.parsing.with_files.Goals as goal
 
 abbrev bare : App

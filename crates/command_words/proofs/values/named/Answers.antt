@@ -1,9 +1,4 @@
-use Rattle.std.proofs.Common.{◌∙◌, rules, tests, ap, sym, option_map}
-use Rattle.std.specs.Str.{bytes_eq}
-use Rattle.std.proofs.lemmas.Iterator.{YieldsList-from_slice}
-use Rattle.std.proofs.lemmas.Iterator.Search.{find_from_yields_List}
-use Rattle.clap.proofs.WalkLemmas.{find-map}
-use Rattle.command_words.specs.Forms.{entry_of}
+use Rattle.command_words.proofs.Common.{◌∙◌, rules, tests, ap, sym, option_map, bytes_eq, YieldsList-from_slice, find_from_yields_List, find-map, entry_of}
 use Rattle.command_words.proofs.values.named.Goals as goal
 
 pub returns-in-Some : goal.returns-in-Some

@@ -1,6 +1,5 @@
 -- Row by row.
-use Rattle.row_problem.proofs.Common.{map, contents_of}
-use Rattle.conflict_sets.specs.Pieces.{listed_by}
+use Rattle.conflict_sets.proofs.Common.{map, contents_of, listed_by}
 use Rattle.conflict_sets.proofs.LoopLaws.{taken-all, taken-next}
 use Rattle.conflict_sets.proofs.copying.trial_rows.Goals as goal
 

@@ -1,7 +1,5 @@
 -- With the rows that are left, the copies so far are those of all rows.
-use Rattle.row_problem.proofs.Common.{◌≡◌, ◌++◌, drop, map, contents_of}
-use Rattle.conflict_sets.specs.Pieces.{listed_by}
-use Rattle.conflict_sets.specs.Trials.{rows_with}
+use Rattle.conflict_sets.proofs.Common.{◌≡◌, ◌++◌, drop, map, contents_of, listed_by, rows_with}
 use Rattle.conflict_sets.proofs.copying.trial_rows.Given as goal
 
 abbrev pub invariant-loop-row : goal.invariant-loop-row

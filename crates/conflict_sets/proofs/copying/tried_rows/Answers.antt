@@ -1,6 +1,5 @@
 -- Row by row.
-use Rattle.row_problem.proofs.Common.{◌<◌, length, map, sym, subst, length-map, contents_of}
-use Rattle.conflict_sets.specs.Pieces.{listed_by}
+use Rattle.conflict_sets.proofs.Common.{◌<◌, length, map, sym, subst, length-map, contents_of, listed_by}
 use Rattle.conflict_sets.proofs.LoopLaws.{chosen-all, chosen-next, contents-at}
 use Rattle.conflict_sets.proofs.copying.tried_rows.Goals as goal
 

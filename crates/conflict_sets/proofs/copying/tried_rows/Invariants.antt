@@ -1,6 +1,5 @@
 -- With the rows that are left, the copies and the scales so far are those of all rows.
-use Rattle.row_problem.proofs.Common.{◌≡◌, ◌++◌, drop, map, contents_of}
-use Rattle.conflict_sets.specs.Pieces.{listed_by, selected, tests_of}
+use Rattle.conflict_sets.proofs.Common.{◌≡◌, ◌++◌, drop, map, contents_of, listed_by, selected, tests_of}
 use Rattle.conflict_sets.proofs.copying.tried_rows.Given as goal
 
 abbrev pub invariant-loop-i : goal.invariant-loop-i

@@ -1,6 +1,5 @@
 -- The first trial, and the trials after it.
-use Rattle.row_problem.proofs.Common.{refl, sym, ◌∙◌, err_from_is_err_and}
-use Rattle.conflict_sets.specs.Walks.{every, explained}
+use Rattle.conflict_sets.proofs.Common.{refl, sym, ◌∙◌, err_from_is_err_and, every, explained}
 use Rattle.conflict_sets.proofs.PartLaws.{all-met, every-taken}
 use Rattle.conflict_sets.proofs.SearchLaws.{search-starts}
 use Rattle.conflict_sets.proofs.WalkLaws.{explained-stops}

@@ -1,7 +1,5 @@
 -- At the end nothing is left to be tried, and what was needed is a conflict.
-use Rattle.row_problem.proofs.Common.{◌≡◌, ◌+◌, [], drop, ap, sym, ◌∙◌, subst, drop_all, drop_more, err_from_is_err_and}
-use Rattle.conflict_sets.specs.Searches.{all_needed, walk_from}
-use Rattle.conflict_sets.specs.Walks.{Stops}
+use Rattle.conflict_sets.proofs.Common.{◌≡◌, ◌+◌, [], drop, ap, sym, ◌∙◌, subst, drop_all, drop_more, err_from_is_err_and, all_needed, walk_from, Stops}
 use Rattle.conflict_sets.proofs.StillLaws.{search-conflict, search-found}
 use Rattle.conflict_sets.proofs.WalkLaws.{walk-ends}
 use Rattle.conflict_sets.proofs.explaining.searched.Goals as goal

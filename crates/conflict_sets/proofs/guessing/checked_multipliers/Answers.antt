@@ -1,7 +1,5 @@
 -- What the checker accepts refutes the rows, and gives the rows that aren't tried the multiplier 0.
-use Rattle.row_problem.proofs.Common.{◌≡◌, map, sym, ◌∙◌, subst, value_of, Multipliers}
-use Rattle.conflict_sets.specs.Pieces.{AreWithin, listed_by}
-use Rattle.conflict_sets.specs.Trials.{tried_multipliers}
+use Rattle.conflict_sets.proofs.Common.{◌≡◌, map, sym, ◌∙◌, subst, value_of, Multipliers, AreWithin, listed_by, tried_multipliers}
 use Rattle.conflict_sets.proofs.FoundTrials.{lifted-are}
 use Rattle.conflict_sets.proofs.TriedLaws.{as-many}
 use Rattle.conflict_sets.proofs.WithinLaws.{multipliers-within}

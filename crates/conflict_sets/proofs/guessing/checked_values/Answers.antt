@@ -1,8 +1,5 @@
 -- What the checker accepts over the copied rows is a plan of the rows of the trial.
-use Rattle.row_problem.proofs.Common.{◌≡◌, map, ap, ◌∙◌, contents_of}
-use Rattle.row_problem.proofs.CompletePlans.{plan-complete}
-use Rattle.conflict_sets.specs.Pieces.{listed_by}
-use Rattle.conflict_sets.specs.Trials.{rows_with}
+use Rattle.conflict_sets.proofs.Common.{◌≡◌, map, ap, ◌∙◌, contents_of, plan-complete, listed_by, rows_with}
 use Rattle.conflict_sets.proofs.CopiedLaws.{copied-plan}
 use Rattle.conflict_sets.proofs.guessing.checked_values.Goals as goal
 

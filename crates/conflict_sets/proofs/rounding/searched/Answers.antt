@@ -1,6 +1,5 @@
 -- At the end nothing is left to be tried, and what was needed is a conflict.
-use Rattle.row_problem.proofs.Common.{◌+◌, List, drop, subst, drop_all, drop_more, RowName}
-use Rattle.conflict_sets.specs.Searches.{SearchIs}
+use Rattle.conflict_sets.proofs.Common.{◌+◌, List, drop, subst, drop_all, drop_more, RowName, SearchIs}
 use Rattle.conflict_sets.proofs.StillLaws.{search-conflict}
 use Rattle.conflict_sets.proofs.rounding.searched.Goals as goal
 

@@ -1,6 +1,5 @@
 -- The names so far have their multipliers.
-use Rattle.row_problem.proofs.Common.{◌≡◌, take, map, valued}
-use Rattle.conflict_sets.specs.Searches.{member_named}
+use Rattle.conflict_sets.proofs.Common.{◌≡◌, take, map, valued, member_named}
 use Rattle.conflict_sets.proofs.searching.members_of.Given as goal
 
 abbrev pub invariant-loop-name : goal.invariant-loop-name

@@ -1,9 +1,5 @@
 -- The plan meets the rows of the trial, so that the checker says yes to it.
-use Rattle.row_problem.proofs.Common.{◌≡◌, map, refl, sym, ap, ◌∙◌, err_from_is_err_and, first_wide-append, contents_of, model_cost, stop_of}
-use Rattle.row_problem.proofs.CompletePlans.{plan-complete}
-use Rattle.conflict_sets.specs.Pieces.{listed_by}
-use Rattle.exact_solver.proofs.StepEnds.{of-part}
-use Rattle.conflict_sets.specs.Trials.{rows_with}
+use Rattle.conflict_sets.proofs.Common.{◌≡◌, map, refl, sym, ap, ◌∙◌, err_from_is_err_and, first_wide-append, contents_of, model_cost, stop_of, plan-complete, listed_by, of-part, rows_with}
 use Rattle.conflict_sets.proofs.CopiedLaws.{copied-conditions, copied-found, copied-plan}
 use Rattle.conflict_sets.proofs.FoundTrials.{trial-plan}
 use Rattle.conflict_sets.proofs.TrialEnds.{stops-by}

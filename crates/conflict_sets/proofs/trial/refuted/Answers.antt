@@ -1,9 +1,5 @@
 -- The multipliers refute the rows, so that the checker says yes to them.
-use Rattle.row_problem.proofs.Common.{◌≡◌, length, refl, sym, ap, ◌∙◌, length-map, err_from_is_err_and, first_wide-append, value_of, stop_of}
-use Rattle.exact_solver.proofs.StepEnds.{of-part}
-use Rattle.row_problem.proofs.OverLaws.{some-over}
-use Rattle.conflict_sets.specs.Pieces.{listed_by}
-use Rattle.conflict_sets.specs.Trials.{tried_multipliers, tried_steps}
+use Rattle.conflict_sets.proofs.Common.{◌≡◌, length, refl, sym, ap, ◌∙◌, length-map, err_from_is_err_and, first_wide-append, value_of, stop_of, of-part, some-over, listed_by, tried_multipliers, tried_steps}
 use Rattle.conflict_sets.proofs.FoundTrials.{lifted-are, steps-are, trial-refutation}
 use Rattle.conflict_sets.proofs.TriedLaws.{as-many, part-tried}
 use Rattle.conflict_sets.proofs.TrialEnds.{stops-by}

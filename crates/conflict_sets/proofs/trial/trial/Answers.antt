@@ -1,8 +1,6 @@
 -- The end of the simplex is that of the trial's linear program.
-use Rattle.row_problem.proofs.Common.{sym, program_of}
-use Rattle.simplex_core.specs.Outcomes.{outcome_seen}
+use Rattle.conflict_sets.proofs.Common.{sym, program_of, outcome_seen, listed_by}
 use Rattle.exact_solver.proofs.SolvedLaws.{sized}
-use Rattle.conflict_sets.specs.Pieces.{listed_by}
 use Rattle.conflict_sets.proofs.FoundTrials.{trial-ended, trial-halted}
 use Rattle.conflict_sets.proofs.TriedLaws.{posed-tried, ready-tried, whole-many}
 use Rattle.conflict_sets.proofs.trial.trial.Goals as goal

@@ -1,8 +1,5 @@
 -- The last entry stands in the last column, or none does.
-use Rattle.std.proofs.Common.{◌≡◌, ℕ, suc, drop, sym, ap, ◌∙◌, subst}
-use Rattle.exact_num.specs.Range.{InRange}
-use Rattle.exact_num.proofs.RangeLaws.{back_in_range}
-use Rattle.int_tableau.specs.Entries.{at, taken_number}
+use Rattle.int_tableau.proofs.Common.{◌≡◌, ℕ, suc, drop, sym, ap, ◌∙◌, subst, InRange, back_in_range, at, taken_number}
 use Rattle.int_tableau.proofs.SizeLaws.{at-fits, at-last}
 use Rattle.int_tableau.proofs.entries.last_in.Goals as goal
 

@@ -1,6 +1,5 @@
 -- The column comes after what is before `low`, and not after what is from `high` on.
-use Rattle.std.proofs.Common.{◌≡◌, ℕ, ◌-◌, ◌≤◌, length, take, drop}
-use Rattle.int_tableau.specs.Entries.{at, IsSparse}
+use Rattle.int_tableau.proofs.Common.{◌≡◌, ℕ, ◌-◌, ◌≤◌, length, take, drop, at, IsSparse}
 use Rattle.int_tableau.proofs.entries.position_of.Given as goal
 
 abbrev pub invariant-loop-low : goal.invariant-loop-low

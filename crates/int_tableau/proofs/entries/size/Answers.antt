@@ -1,10 +1,5 @@
 -- One entry after another.
-use Rattle.std.proofs.Common.{◌≡◌, ◌≤◌, ℕ, ℤ, List, get_or, take, sym, ap, ◌∙◌, subst, arith}
-use Rattle.std.specs.Prelude.{unsigned_abs}
-use Rattle.exact_num.specs.Range.{InRange}
-use Rattle.exact_num.proofs.RangeLaws.{back_in_range}
-use Rattle.row_core.specs.Numbers.{numbers_of}
-use Rattle.row_core.proofs.WritingSteps.{entries_fit-at}
+use Rattle.int_tableau.proofs.Common.{◌≡◌, ◌≤◌, ℕ, ℤ, List, get_or, take, sym, ap, ◌∙◌, subst, arith, unsigned_abs, InRange, back_in_range, numbers_of, entries_fit-at}
 use Rattle.int_tableau.proofs.DivisionLaws.{no_entry}
 use Rattle.int_tableau.proofs.SizeLaws.{AreWithin-more, taken-within, all-within}
 use Rattle.int_tableau.proofs.entries.size.Goals as goal

@@ -1,7 +1,5 @@
 -- What was seen is within the greatest so far.
-use Rattle.std.proofs.Common.{◌≤◌, take}
-use Rattle.row_core.specs.Numbers.{numbers_of}
-use Rattle.int_tableau.specs.Sizes.{AreWithin}
+use Rattle.int_tableau.proofs.Common.{◌≤◌, take, numbers_of, AreWithin}
 use Rattle.int_tableau.proofs.entries.size.Given as goal
 
 abbrev pub invariant-loop-entry : goal.invariant-loop-entry

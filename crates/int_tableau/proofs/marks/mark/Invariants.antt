@@ -1,6 +1,5 @@
 -- The columns of the entries so far are marked.
-use Rattle.std.proofs.Common.{◌≡◌, length, take}
-use Rattle.int_tableau.specs.Marks.{AreMarked}
+use Rattle.int_tableau.proofs.Common.{◌≡◌, length, take, AreMarked}
 use Rattle.int_tableau.proofs.marks.mark.Given as goal
 
 abbrev pub invariant-loop-entry : goal.invariant-loop-entry

@@ -1,11 +1,5 @@
 -- One column after another.
-use Rattle.std.proofs.Common.{◌≡◌, ℕ, suc, ◌<◌, ◌≤◌, ℤ, true, List, drop, sym, ap₂, ◌∙◌, subst, arith, to_z, of_z}
-use Rattle.std.specs.Int.{w128}
-use Rattle.exact_num.specs.Range.{InRange, all_fit}
-use Rattle.exact_num.proofs.RangeLaws.{back_in_range}
-use Rattle.written_method.specs.Lines.{less, less_formed}
-use Rattle.int_tableau.specs.Entries.{at, IsSparse, head_column, taken_number, taken_rest}
-use Rattle.int_tableau.specs.Pushes.{IsPushed}
+use Rattle.int_tableau.proofs.Common.{◌≡◌, ℕ, suc, ◌<◌, ◌≤◌, ℤ, true, List, drop, sym, ap₂, ◌∙◌, subst, arith, to_z, of_z, w128, InRange, all_fit, back_in_range, less, less_formed, at, IsSparse, head_column, taken_number, taken_rest, IsPushed}
 use Rattle.int_tableau.proofs.EntryLaws.{head_column-from, head_column-below, IsSparse-taken, taken_number-fits}
 use Rattle.int_tableau.proofs.MergeLaws.{IsMerge, IsMerge-none, IsMerge-column, IsMerge-taken, IsMerge-value, IsMerge-fits}
 use Rattle.int_tableau.proofs.merging.combine.Goals as goal

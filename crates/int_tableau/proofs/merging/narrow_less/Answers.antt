@@ -1,9 +1,5 @@
 -- Products of numbers below 2^63 are below 2^126, and so their difference is below 2^127.
-use Rattle.std.proofs.Common.{◌≡◌, ◌<◌, ◌^◌, ℤ, sym, ap₂, ◌∙◌, subst, arith, FitsSigned, ◌-ℤ◌, ◌*ℤ◌, to_z, of_z}
-use Rattle.std.specs.Int.{w128}
-use Rattle.std.specs.Prelude.{unsigned_abs}
-use Rattle.exact_num.specs.Range.{InRange}
-use Rattle.exact_num.proofs.RangeLaws.{FitsSigned-from_InRange, back_in_range, narrow_is}
+use Rattle.int_tableau.proofs.Common.{◌≡◌, ◌<◌, ◌^◌, ℤ, sym, ap₂, ◌∙◌, subst, arith, FitsSigned, ◌-ℤ◌, ◌*ℤ◌, to_z, of_z, w128, unsigned_abs, InRange, FitsSigned-from_InRange, back_in_range, narrow_is}
 use Rattle.int_tableau.proofs.ProductLaws.{less_fits, formed_fit}
 use Rattle.int_tableau.proofs.merging.narrow_less.Goals as goal
 

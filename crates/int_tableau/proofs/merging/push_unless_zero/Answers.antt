@@ -1,7 +1,4 @@
-use Rattle.std.proofs.Common.{◌≡◌, ◌≢◌, ℕ, ℤ, pos, List, ◌++◌, [], ◌∷◌, sym, ap, ◌∙◌, subst, to_z, of_z}
-use Rattle.std.specs.Int.{w128}
-use Rattle.exact_num.proofs.RangeLaws.{back_in_range}
-use Rattle.int_tableau.specs.Pushes.{IsPushed}
+use Rattle.int_tableau.proofs.Common.{◌≡◌, ◌≢◌, ℕ, ℤ, pos, List, ◌++◌, [], ◌∷◌, sym, ap, ◌∙◌, subst, to_z, of_z, w128, back_in_range, IsPushed}
 use Rattle.int_tableau.proofs.MergeLaws.{pushed, not_pushed}
 use Rattle.int_tableau.proofs.merging.push_unless_zero.Goals as goal
 

@@ -1,12 +1,7 @@
 -- An entry that fits into 64 bits is copied.
-use Rattle.std.proofs.Common.{◌≡◌, ◌<◌, ◌^◌, ◌++◌, [], ◌∷◌, ℕ, ℤ, List, get_or, refl, sym, ap, ◌∙◌, subst}
-use Rattle.std.specs.Prelude.{unsigned_abs}
-use Rattle.exact_num.specs.Range.{InRange}
-use Rattle.exact_num.proofs.RangeLaws.{back_in_range}
-use Rattle.row_core.proofs.WritingSteps.{entries_fit-at}
+use Rattle.int_tableau.proofs.Common.{◌≡◌, ◌<◌, ◌^◌, ◌++◌, [], ◌∷◌, ℕ, ℤ, List, get_or, refl, sym, ap, ◌∙◌, subst, unsigned_abs, InRange, back_in_range, entries_fit-at, AreNarrow}
 use Rattle.int_tableau.proofs.DivisionLaws.{no_entry}
 use Rattle.int_tableau.proofs.NarrowLaws.{back_narrowed, AreNarrow-last, copied_step}
-use Rattle.int_tableau.specs.Narrow.{AreNarrow}
 use Rattle.int_tableau.proofs.narrow.narrowed.Goals as goal
 
 pub loop-entry-preserved : goal.loop-entry-preserved

@@ -1,6 +1,5 @@
 -- What is written and what is left are all entries.
-use Rattle.std.proofs.Common.{◌≡◌, ◌++◌, drop}
-use Rattle.int_tableau.specs.Narrow.{AreNarrow}
+use Rattle.int_tableau.proofs.Common.{◌≡◌, ◌++◌, drop, AreNarrow}
 use Rattle.int_tableau.proofs.narrow.narrowed.Given as goal
 
 abbrev pub invariant-loop-entry : goal.invariant-loop-entry

@@ -1,12 +1,7 @@
 -- One entry after another.
-use Rattle.std.proofs.Common.{◌≡◌, ◌<◌, ◌^◌, ℕ, ℤ, neg_ℤ, List, ◌++◌, get_or, set, take, drop, sym, ap, ap₂, ◌∙◌, subst, arith, to_z, of_z}
-use Rattle.std.specs.Int.{w64}
-use Rattle.std.specs.Prelude.{unsigned_abs}
-use Rattle.exact_num.proofs.Integers.{unsigned_abs-neg_ℤ}
-use Rattle.int_tableau.specs.Entries.{entries_negated}
+use Rattle.int_tableau.proofs.Common.{◌≡◌, ◌<◌, ◌^◌, ℕ, ℤ, neg_ℤ, List, ◌++◌, get_or, set, take, drop, sym, ap, ap₂, ◌∙◌, subst, arith, to_z, of_z, w64, unsigned_abs, unsigned_abs-neg_ℤ, entries_negated, AreNarrow}
 use Rattle.int_tableau.proofs.DivisionLaws.{no_entry, unnegated_at, negated_step}
 use Rattle.int_tableau.proofs.NarrowLaws.{AreNarrow-at, back_narrow}
-use Rattle.int_tableau.specs.Narrow.{AreNarrow}
 use Rattle.int_tableau.proofs.narrow.negate_all.Goals as goal
 
 pub opposite-entry-requires : goal.opposite-entry-requires

@@ -1,7 +1,5 @@
-use Rattle.std.proofs.Common.{◌<◌, ◌^◌, sym, ◌∙◌, subst}
-use Rattle.std.specs.Prelude.{unsigned_abs}
+use Rattle.int_tableau.proofs.Common.{◌<◌, ◌^◌, sym, ◌∙◌, subst, unsigned_abs, at}
 use Rattle.int_tableau.proofs.NarrowLaws.{narrow_fits, back_widened}
-use Rattle.int_tableau.specs.Entries.{at}
 use Rattle.int_tableau.proofs.narrow.number_in.Goals as goal
 
 pub returns-clause-value : goal.returns-clause-value

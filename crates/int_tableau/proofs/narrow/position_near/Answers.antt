@@ -1,6 +1,5 @@
 -- The entry before is in an earlier column, and the one there isn't.
-use Rattle.std.proofs.Common.{◌≡◌, ℕ, suc, ◌-◌, ◌<◌, length, take, drop, ap, ◌∙◌, subst, arith}
-use Rattle.int_tableau.specs.Entries.{at, IsSparse}
+use Rattle.int_tableau.proofs.Common.{◌≡◌, ℕ, suc, ◌-◌, ◌<◌, length, take, drop, ap, ◌∙◌, subst, arith, at, IsSparse}
 use Rattle.int_tableau.proofs.LineLaws.{at-after, IsSparse-drop, IsSparse-take}
 use Rattle.int_tableau.proofs.narrow.position_near.Goals as goal
 

@@ -1,6 +1,5 @@
 -- Half of what is left is passed over.
-use Rattle.std.proofs.Common.{ℕ, ◌+◌, ◌-◌, ◌/◌, ◌<◌, ◌≤◌, length, get_or, take, drop, sym, ap, ◌∙◌, subst, arith, add-one}
-use Rattle.int_tableau.specs.Entries.{at, IsSparse}
+use Rattle.int_tableau.proofs.Common.{ℕ, ◌+◌, ◌-◌, ◌/◌, ◌<◌, ◌≤◌, length, get_or, take, drop, sym, ap, ◌∙◌, subst, arith, add-one, at, IsSparse}
 use Rattle.int_tableau.proofs.DivisionLaws.{no_entry}
 use Rattle.int_tableau.proofs.LineLaws.{at-after, IsSparse-drop, IsSparse-take}
 use Rattle.int_tableau.proofs.narrow.position_of.Goals as goal

@@ -1,6 +1,4 @@
-use Rattle.std.proofs.Common.{◌≡◌, ◌<◌, ◌^◌, drop, sym, ◌∙◌, subst, arith}
-use Rattle.std.specs.Prelude.{unsigned_abs}
-use Rattle.int_tableau.specs.Entries.{at}
+use Rattle.int_tableau.proofs.Common.{◌≡◌, ◌<◌, ◌^◌, drop, sym, ◌∙◌, subst, arith, unsigned_abs, at}
 use Rattle.int_tableau.proofs.EntryLaws.{taken_number-at}
 use Rattle.int_tableau.proofs.NarrowLaws.{back_narrow, AreNarrow-drop, taken_number-narrow}
 use Rattle.int_tableau.proofs.narrow.short_in.Goals as goal

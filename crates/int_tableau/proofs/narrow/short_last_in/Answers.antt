@@ -1,7 +1,5 @@
 -- The last entry stands in the last column, or none does.
-use Rattle.std.proofs.Common.{◌≡◌, ◌<◌, ◌^◌, ℕ, drop, sym, ap, ◌∙◌, subst}
-use Rattle.std.specs.Prelude.{unsigned_abs}
-use Rattle.int_tableau.specs.Entries.{at, taken_number}
+use Rattle.int_tableau.proofs.Common.{◌≡◌, ◌<◌, ◌^◌, ℕ, drop, sym, ap, ◌∙◌, subst, unsigned_abs, at, taken_number}
 use Rattle.int_tableau.proofs.NarrowLaws.{back_narrow, AreNarrow-drop, taken_number-narrow}
 use Rattle.int_tableau.proofs.SizeLaws.{at-last}
 use Rattle.int_tableau.proofs.narrow.short_last_in.Goals as goal

@@ -1,7 +1,5 @@
 -- One entry after another.
-use Rattle.std.proofs.Common.{◌≡◌, ◌<◌, ◌≤◌, ◌^◌, ℕ, ℤ, List, get_or, take, ap, ◌∙◌, subst}
-use Rattle.std.specs.Prelude.{unsigned_abs}
-use Rattle.row_core.specs.Numbers.{numbers_of}
+use Rattle.int_tableau.proofs.Common.{◌≡◌, ◌<◌, ◌≤◌, ◌^◌, ℕ, ℤ, List, get_or, take, ap, ◌∙◌, subst, unsigned_abs, numbers_of}
 use Rattle.int_tableau.proofs.DivisionLaws.{no_entry}
 use Rattle.int_tableau.proofs.NarrowLaws.{AreNarrow-at, back_narrow}
 use Rattle.int_tableau.proofs.SizeLaws.{AreWithin-more, taken-within, all-within}

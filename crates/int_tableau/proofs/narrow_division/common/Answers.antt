@@ -1,11 +1,5 @@
 -- It has no more bits than the two numbers.
-use Rattle.std.proofs.Common.{◌≡◌, ◌<◌, ◌^◌, ℤ, pos, sym, ap₂, ◌∙◌, subst, arith, FitsSigned}
-use Rattle.std.specs.Int.{w64}
-use Rattle.std.specs.Prelude.{unsigned_abs}
-use Rattle.std.proofs.lemmas.Int.{ints}
-use Rattle.exact_num.specs.Gcd.{gcd_of}
-use Rattle.exact_num.proofs.GcdLaws.{gcd_of_below}
-use Rattle.exact_num.proofs.RangeLaws.{back_in_range}
+use Rattle.int_tableau.proofs.Common.{◌≡◌, ◌<◌, ◌^◌, ℤ, pos, sym, ap₂, ◌∙◌, subst, arith, FitsSigned, w64, unsigned_abs, ints, gcd_of, gcd_of_below, back_in_range}
 use Rattle.int_tableau.proofs.NarrowLaws.{back_widened, back_narrowed}
 use Rattle.int_tableau.proofs.narrow_division.common.Goals as goal
 

@@ -1,12 +1,5 @@
 -- One entry after another.
-use Rattle.std.proofs.Common.{◌≡◌, ◌<◌, ◌^◌, ℕ, ℤ, pos, List, ◌++◌, length, get_or, set, take, drop, sym, ap, ap₂, ◌∙◌, subst, arith, to_z, of_z}
-use Rattle.std.specs.Int.{w64}
-use Rattle.std.specs.Prelude.{unsigned_abs, int_div}
-use Rattle.exact_num.proofs.Integers.{pos-unsigned_abs, unsigned_abs-int_div}
-use Rattle.row_core.specs.Written.{entries_divided}
-use Rattle.row_core.proofs.WrittenLaws.{entries_divided-one}
-use Rattle.row_core.proofs.WritingSteps.{undivided_at, divided_step}
-use Rattle.int_tableau.specs.Narrow.{AreNarrow}
+use Rattle.int_tableau.proofs.Common.{◌≡◌, ◌<◌, ◌^◌, ℕ, ℤ, pos, List, ◌++◌, length, get_or, set, take, drop, sym, ap, ap₂, ◌∙◌, subst, arith, to_z, of_z, w64, unsigned_abs, int_div, pos-unsigned_abs, unsigned_abs-int_div, entries_divided, entries_divided-one, undivided_at, divided_step, AreNarrow}
 use Rattle.int_tableau.proofs.DivisionLaws.{no_entry}
 use Rattle.int_tableau.proofs.NarrowLaws.{AreNarrow-at, back_narrow}
 use Rattle.int_tableau.proofs.narrow_division.divide_all.Goals as goal

@@ -1,7 +1,5 @@
 -- The entries so far are divided, and the others are as they were.
-use Rattle.std.proofs.Common.{◌≡◌, ◌++◌, take, drop}
-use Rattle.std.specs.Prelude.{unsigned_abs}
-use Rattle.row_core.specs.Written.{entries_divided}
+use Rattle.int_tableau.proofs.Common.{◌≡◌, ◌++◌, take, drop, unsigned_abs, entries_divided}
 use Rattle.int_tableau.proofs.narrow_division.divide_all.Given as goal
 
 abbrev pub invariant-loop-entry : goal.invariant-loop-entry

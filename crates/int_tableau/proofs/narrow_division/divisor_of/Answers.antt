@@ -1,15 +1,5 @@
 -- The greatest common divisor, number by number.
-use Rattle.std.proofs.Common.{◌≡◌, ◌<◌, ◌^◌, ℕ, ◌+◌, ℤ, pos, ◌∷◌, List, drop, get_or, sym, ap, ◌∙◌, subst, arith, to_z, of_z}
-use Rattle.std.specs.Int.{w64}
-use Rattle.std.specs.Prelude.{unsigned_abs, ◌≤ℤ◌, ◌<ℤ◌}
-use Rattle.std.proofs.lemmas.Int.{ints}
-use Rattle.std.proofs.lemmas.List.{get_or_default}
-use Rattle.exact_num.specs.Gcd.{gcd_of}
-use Rattle.exact_num.proofs.GcdLaws.{one-gcd_of}
-use Rattle.exact_num.proofs.Integers.{pos-unsigned_abs, unsigned_abs_pos, nonzero_of_pos}
-use Rattle.row_core.specs.Numbers.{numbers_of}
-use Rattle.row_core.specs.Written.{common_divisor}
-use Rattle.row_core.proofs.WritingSteps.{shared-item, shared-end, row_divisor-by, above_zero}
+use Rattle.int_tableau.proofs.Common.{◌≡◌, ◌<◌, ◌^◌, ℕ, ◌+◌, ℤ, pos, ◌∷◌, List, drop, get_or, sym, ap, ◌∙◌, subst, arith, to_z, of_z, w64, unsigned_abs, ◌≤ℤ◌, ◌<ℤ◌, ints, get_or_default, gcd_of, one-gcd_of, pos-unsigned_abs, unsigned_abs_pos, nonzero_of_pos, numbers_of, common_divisor, shared-item, shared-end, row_divisor-by, above_zero}
 use Rattle.int_tableau.proofs.DivisionLaws.{no_entry}
 use Rattle.int_tableau.proofs.NarrowLaws.{AreNarrow-at, back_narrow}
 use Rattle.int_tableau.proofs.narrow_division.divisor_of.Goals as goal

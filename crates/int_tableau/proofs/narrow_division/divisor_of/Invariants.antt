@@ -1,9 +1,5 @@
 -- The divisor so far and that of what is left have the divisor of all.
-use Rattle.std.proofs.Common.{◌≡◌, ◌∷◌, drop}
-use Rattle.std.specs.Prelude.{unsigned_abs}
-use Rattle.exact_num.specs.Gcd.{gcd_of}
-use Rattle.row_core.specs.Numbers.{numbers_of}
-use Rattle.row_core.specs.Written.{common_divisor}
+use Rattle.int_tableau.proofs.Common.{◌≡◌, ◌∷◌, drop, unsigned_abs, gcd_of, numbers_of, common_divisor}
 use Rattle.int_tableau.proofs.narrow_division.divisor_of.Given as goal
 
 abbrev pub invariant-loop-entry : goal.invariant-loop-entry

@@ -1,14 +1,5 @@
 -- One column after another.
-use Rattle.std.proofs.Common.{◌≡◌, ℕ, ◌<◌, ◌≤◌, ◌+◌, ◌*◌, ◌^◌, ℤ, pos, true, List, length, get_or, drop, refl, sym, ap₂, ◌∙◌, subst, arith, to_z, of_z}
-use Rattle.std.specs.Int.{w64}
-use Rattle.std.specs.Prelude.{unsigned_abs}
-use Rattle.exact_num.specs.Range.{all_fit}
-use Rattle.row_core.specs.Numbers.{numbers_of}
-use Rattle.written_method.specs.Lines.{less, less_formed}
-use Rattle.int_tableau.specs.Entries.{at, head_column}
-use Rattle.int_tableau.specs.Narrow.{AreNarrow}
-use Rattle.int_tableau.specs.Pushes.{IsPushed}
-use Rattle.int_tableau.specs.Sizes.{AreWithin, AreSure}
+use Rattle.int_tableau.proofs.Common.{◌≡◌, ℕ, ◌<◌, ◌≤◌, ◌+◌, ◌*◌, ◌^◌, ℤ, pos, true, List, length, get_or, drop, refl, sym, ap₂, ◌∙◌, subst, arith, to_z, of_z, w64, unsigned_abs, all_fit, numbers_of, less, less_formed, at, head_column, AreNarrow, IsPushed, AreWithin, AreSure}
 use Rattle.int_tableau.proofs.DivisionLaws.{no_entry}
 use Rattle.int_tableau.proofs.EntryLaws.{head_column-below}
 use Rattle.int_tableau.proofs.HeadLaws.{IsMerging-both, IsMerging-left, IsMerging-right, IsMerging-sparse, IsMerging-value, IsMerging-fits, head_there}

@@ -1,9 +1,6 @@
 -- What is left begins with the two columns, and what is before them is written.
-use Rattle.std.proofs.Common.{◌≡◌, ◌+◌, ◌-◌, ◌≤◌, drop, length}
-use Rattle.std.specs.Prelude.{vec_capacity}
+use Rattle.int_tableau.proofs.Common.{◌≡◌, ◌+◌, ◌-◌, ◌≤◌, drop, length, vec_capacity, head_column, AreNarrow}
 use Rattle.int_tableau.proofs.HeadLaws.{IsMerging}
-use Rattle.int_tableau.specs.Entries.{head_column}
-use Rattle.int_tableau.specs.Narrow.{AreNarrow}
 use Rattle.int_tableau.proofs.narrow_merging.combine.Given as goal
 
 abbrev pub invariant-loop-first : goal.invariant-loop-first

@@ -1,7 +1,4 @@
-use Rattle.std.proofs.Common.{◌≡◌, ◌≢◌, ℕ, ℤ, pos, List, ◌++◌, [], ◌∷◌, sym, ap, ◌∙◌, subst, to_z, of_z}
-use Rattle.std.specs.Int.{w64}
-use Rattle.int_tableau.specs.Narrow.{AreNarrow}
-use Rattle.int_tableau.specs.Pushes.{IsPushed}
+use Rattle.int_tableau.proofs.Common.{◌≡◌, ◌≢◌, ℕ, ℤ, pos, List, ◌++◌, [], ◌∷◌, sym, ap, ◌∙◌, subst, to_z, of_z, w64, AreNarrow, IsPushed}
 use Rattle.int_tableau.proofs.MergeLaws.{pushed, not_pushed}
 use Rattle.int_tableau.proofs.NarrowLaws.{back_narrow, narrow_fits, AreNarrow-last}
 use Rattle.int_tableau.proofs.narrow_merging.push_unless_zero.Goals as goal

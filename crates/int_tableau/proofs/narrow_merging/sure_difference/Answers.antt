@@ -1,8 +1,5 @@
 -- The products and their difference are below 2^63.
-use Rattle.std.proofs.Common.{◌≡◌, ◌<◌, ◌^◌, ℤ, sym, ap₂, ◌∙◌, subst, arith, FitsSigned, ◌-ℤ◌, ◌*ℤ◌, to_z, of_z}
-use Rattle.std.specs.Int.{w64}
-use Rattle.std.specs.Prelude.{unsigned_abs}
-use Rattle.std.proofs.lemmas.Int.{ints, to_z-of_z}
+use Rattle.int_tableau.proofs.Common.{◌≡◌, ◌<◌, ◌^◌, ℤ, sym, ap₂, ◌∙◌, subst, arith, FitsSigned, ◌-ℤ◌, ◌*ℤ◌, to_z, of_z, w64, unsigned_abs, ints, to_z-of_z}
 use Rattle.int_tableau.proofs.NarrowLaws.{back_narrow}
 use Rattle.int_tableau.proofs.ProductLaws.{sure_first, sure_second, sure_less, sure_fits}
 use Rattle.int_tableau.proofs.narrow_merging.sure_difference.Goals as goal

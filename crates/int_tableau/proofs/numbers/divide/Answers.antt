@@ -1,16 +1,6 @@
 -- The divisor of the entries and of the divisor of right side and own entry is that of all columns.
-use Rattle.std.proofs.Common.{◌≡◌, ℕ, ℤ, pos, List, ◌∷◌, sym, ap, ap₂, ◌∙◌, subst, to_z, of_z}
-use Rattle.std.specs.Int.{w128}
+use Rattle.int_tableau.proofs.Common.{◌≡◌, ℕ, ℤ, pos, List, ◌∷◌, sym, ap, ap₂, ◌∙◌, subst, to_z, of_z, w128, common, back_in_range, numbers_of, common_divisor, entries_divided, row_divisor, gcd_of_assoc, row_divisor-is, Line, line_over, IsSparse, line_seen}
 use Rattle.std.specs.Prelude.{unsigned_abs, int_div, ◌==◌, if◌then◌else◌}
-use Rattle.exact_num.specs.Formed.{common}
-use Rattle.exact_num.proofs.RangeLaws.{back_in_range}
-use Rattle.row_core.specs.Numbers.{numbers_of}
-use Rattle.row_core.specs.Written.{common_divisor, entries_divided, row_divisor}
-use Rattle.row_core.proofs.WritingSteps.{gcd_of_assoc}
-use Rattle.row_core.proofs.WrittenLaws.{row_divisor-is}
-use Rattle.written_method.specs.Lines.{Line, line_over}
-use Rattle.int_tableau.specs.Entries.{IsSparse}
-use Rattle.int_tableau.specs.LineView.{line_seen}
 use Rattle.int_tableau.proofs.DivisionLaws.{IsSparse-over}
 use Rattle.int_tableau.proofs.LineLaws.{line_over-seen, row_divisor-seen}
 use Rattle.int_tableau.proofs.numbers.divide.Goals as goal

@@ -1,9 +1,4 @@
-use Rattle.std.proofs.Common.{◌≡◌, ℤ, pos, sym, ap, ap₂, ◌∙◌, subst}
-use Rattle.std.specs.Prelude.{◌<ℤ◌, int_div, unsigned_abs}
-use Rattle.exact_num.specs.Formed.{common}
-use Rattle.exact_num.specs.Range.{InRange}
-use Rattle.exact_num.proofs.GcdLaws.{gcd_of_comm}
-use Rattle.exact_num.proofs.RangeLaws.{back_in_range}
+use Rattle.int_tableau.proofs.Common.{◌≡◌, ℤ, pos, sym, ap, ap₂, ◌∙◌, subst, ◌<ℤ◌, int_div, unsigned_abs, common, InRange, gcd_of_comm, back_in_range}
 use Rattle.int_tableau.proofs.DivisionLaws.{common_pos}
 use Rattle.int_tableau.proofs.numbers.factors.Goals as goal
 

@@ -1,11 +1,5 @@
 -- One entry after another.
-use Rattle.std.proofs.Common.{◌≡◌, ℕ, ℤ, neg_ℤ, true, List, ◌++◌, get_or, set, take, drop, sym, ap, ap₂, ◌∙◌, subst, arith, to_z, of_z}
-use Rattle.std.specs.Int.{w128}
-use Rattle.exact_num.specs.Range.{InRange, all_fit}
-use Rattle.exact_num.proofs.RangeLaws.{back_in_range}
-use Rattle.row_core.specs.Numbers.{numbers_of}
-use Rattle.int_tableau.specs.Entries.{entries_negated}
-use Rattle.row_core.proofs.WritingSteps.{entries_fit-at}
+use Rattle.int_tableau.proofs.Common.{◌≡◌, ℕ, ℤ, neg_ℤ, true, List, ◌++◌, get_or, set, take, drop, sym, ap, ap₂, ◌∙◌, subst, arith, to_z, of_z, w128, InRange, all_fit, back_in_range, numbers_of, entries_negated, entries_fit-at}
 use Rattle.int_tableau.proofs.DivisionLaws.{no_entry, unnegated_at, negated_step}
 use Rattle.int_tableau.proofs.numbers.negate_all.Goals as goal
 

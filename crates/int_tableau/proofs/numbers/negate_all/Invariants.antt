@@ -1,6 +1,5 @@
 -- The entries so far are negated, and the others are as they were.
-use Rattle.std.proofs.Common.{◌≡◌, ◌++◌, take, drop}
-use Rattle.int_tableau.specs.Entries.{entries_negated}
+use Rattle.int_tableau.proofs.Common.{◌≡◌, ◌++◌, take, drop, entries_negated}
 use Rattle.int_tableau.proofs.numbers.negate_all.Given as goal
 
 abbrev pub invariant-loop-entry : goal.invariant-loop-entry

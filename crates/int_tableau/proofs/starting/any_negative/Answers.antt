@@ -1,9 +1,4 @@
-use Rattle.std.proofs.Common.{◌≡◌, pos, sym, ap, ◌∙◌, to_z, of_z}
-use Rattle.std.specs.Int.{w128}
-use Rattle.std.specs.Prelude.{int_lt}
-use Rattle.exact_num.proofs.RangeLaws.{back_in_range}
-use Rattle.row_core.proofs.CombinedLaws.{rhs_fits}
-use Rattle.written_method.specs.FirstTableau.{as_most}
+use Rattle.int_tableau.proofs.Common.{◌≡◌, pos, sym, ap, ◌∙◌, to_z, of_z, w128, int_lt, back_in_range, rhs_fits, as_most}
 use Rattle.int_tableau.proofs.LoopLaws.{negative-here, negative-later, negative-none}
 use Rattle.int_tableau.proofs.starting.any_negative.Goals as goal
 

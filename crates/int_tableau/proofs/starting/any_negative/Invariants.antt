@@ -1,7 +1,5 @@
 -- No right side so far is negative.
-use Rattle.std.proofs.Common.{◌≡◌, map, drop}
-use Rattle.written_method.specs.FirstTableau.{any_negative}
-use Rattle.written_method.specs.Programs.{inequality_of}
+use Rattle.int_tableau.proofs.Common.{◌≡◌, map, drop, any_negative, inequality_of}
 use Rattle.int_tableau.proofs.starting.any_negative.Given as goal
 
 abbrev pub invariant-loop-row : goal.invariant-loop-row

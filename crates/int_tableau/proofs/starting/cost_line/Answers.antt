@@ -1,19 +1,5 @@
 -- The entries that are pushed are those of the line of z.
-use Rattle.std.proofs.Common.{◌≡◌, ◌+◌, ◌++◌, ℕ, ℤ, true, List, [], length, map, sym, ap, ap₂, ◌∙◌, subst, add_assoc, to_z, of_z, if◌then◌else◌}
-use Rattle.std.specs.Int.{w128}
-use Rattle.std.proofs.lemmas.Result.{IfOk-weaker}
-use Rattle.exact_num.specs.Range.{InRange}
-use Rattle.exact_num.proofs.RangeLaws.{back_in_range}
-use Rattle.row_core.specs.declared.Sense.TheVariants.{Most}
-use Rattle.row_core.specs.declared.Var.{Var}
-use Rattle.row_core.specs.Numbers.{ascends, keys_of}
-use Rattle.row_core.specs.Order.{var_cmp}
-use Rattle.written_method.specs.FirstTableau.{width_of}
-use Rattle.written_method.specs.Lines.{Line}
-use Rattle.written_method.specs.Programs.{inequality_of, program_of}
-use Rattle.int_tableau.specs.Entries.{IsSparse}
-use Rattle.int_tableau.specs.LineView.{line_seen}
-use Rattle.int_tableau.specs.Starts.{column_entries, placed}
+use Rattle.int_tableau.proofs.Common.{◌≡◌, ◌+◌, ◌++◌, ℕ, ℤ, true, List, [], length, map, sym, ap, ap₂, ◌∙◌, subst, add_assoc, to_z, of_z, if◌then◌else◌, w128, IfOk-weaker, InRange, back_in_range, Most, Var, ascends, keys_of, var_cmp, width_of, Line, inequality_of, program_of, IsSparse, line_seen, column_entries, placed}
 use Rattle.int_tableau.proofs.StartLaws.{cost_line-seen, cost_entries-IsSparse}
 use Rattle.int_tableau.proofs.TableauLaws.{length-mapped}
 use Rattle.int_tableau.proofs.starting.cost_line.Goals as goal

@@ -1,10 +1,5 @@
 -- The line of w has one entry.
-use Rattle.std.proofs.Common.{◌≡◌, ◌+◌, ◌++◌, ℕ, ℤ, pos, negsuc, true, List, [], ◌∷◌, length, sym, ap, ap₂, ◌∙◌, if◌then◌else◌}
-use Rattle.row_core.specs.declared.Var.{Var}
-use Rattle.written_method.specs.FirstTableau.{artificial_line, width_of}
-use Rattle.written_method.specs.Lines.{Line}
-use Rattle.int_tableau.specs.LineView.{line_seen}
-use Rattle.int_tableau.specs.Starts.{x0_column}
+use Rattle.int_tableau.proofs.Common.{◌≡◌, ◌+◌, ◌++◌, ℕ, ℤ, pos, negsuc, true, List, [], ◌∷◌, length, sym, ap, ap₂, ◌∙◌, if◌then◌else◌, Var, artificial_line, width_of, Line, line_seen, x0_column}
 use Rattle.int_tableau.proofs.StartLaws.{artificial_line-seen}
 use Rattle.int_tableau.proofs.starting.push_artificial_line.Goals as goal
 

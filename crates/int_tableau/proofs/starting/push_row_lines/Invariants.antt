@@ -1,8 +1,5 @@
 -- The lines so far, and those of the rows that are left.
-use Rattle.std.proofs.Common.{◌≡◌, ◌++◌, map, drop}
-use Rattle.row_core.specs.Numbers.{keys_of}
-use Rattle.written_method.specs.FirstTableau.{row_lines}
-use Rattle.written_method.specs.Programs.{inequality_of}
+use Rattle.int_tableau.proofs.Common.{◌≡◌, ◌++◌, map, drop, keys_of, row_lines, inequality_of}
 use Rattle.int_tableau.proofs.starting.push_row_lines.Given as goal
 
 abbrev pub invariant-loop-position : goal.invariant-loop-position

@@ -1,10 +1,4 @@
-use Rattle.std.proofs.Common.{◌≡◌, ◌+◌, ◌≤◌, ℕ, Bool, true, false, List, Some, sym, ap, ◌∙◌, arith}
-use Rattle.row_core.specs.declared.Var.{Var}
-use Rattle.row_core.specs.LookUps.{value_at}
-use Rattle.row_core.specs.Numbers.{keys_of}
-use Rattle.row_core.specs.Order.{var_cmp}
-use Rattle.written_method.specs.Programs.{is_split}
-use Rattle.int_tableau.specs.Starts.{after_columns, placed}
+use Rattle.int_tableau.proofs.Common.{◌≡◌, ◌+◌, ◌≤◌, ℕ, Bool, true, false, List, Some, sym, ap, ◌∙◌, arith, Var, value_at, keys_of, var_cmp, is_split, after_columns, placed}
 use Rattle.int_tableau.proofs.PlaceLaws.{place-within}
 use Rattle.int_tableau.proofs.starting.push_variable.Goals as goal
 

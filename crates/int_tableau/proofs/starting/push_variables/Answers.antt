@@ -1,15 +1,5 @@
 -- One number after another.
-use Rattle.std.proofs.Common.{◌≡◌, ◌++◌, get_or, sym, ap, ◌∙◌, subst, to_z, of_z}
-use Rattle.std.specs.Int.{w128}
-use Rattle.std.proofs.lemmas.List.{get_or_default}
-use Rattle.exact_num.specs.Range.{InRange}
-use Rattle.exact_num.proofs.RangeLaws.{back_in_range}
-use Rattle.row_core.specs.LookUps.{value_at}
-use Rattle.row_core.specs.Order.{var_cmp}
-use Rattle.row_core.proofs.WritingSteps.{entries_fit-at, no_entry}
-use Rattle.written_method.specs.FirstTableau.{as_most}
-use Rattle.written_method.specs.Programs.{is_split}
-use Rattle.int_tableau.specs.Starts.{in_columns_of}
+use Rattle.int_tableau.proofs.Common.{◌≡◌, ◌++◌, get_or, sym, ap, ◌∙◌, subst, to_z, of_z, w128, get_or_default, InRange, back_in_range, value_at, var_cmp, entries_fit-at, no_entry, as_most, is_split, in_columns_of}
 use Rattle.int_tableau.proofs.LoopLaws.{entries-step, entries-end}
 use Rattle.int_tableau.proofs.starting.push_variables.Goals as goal
 

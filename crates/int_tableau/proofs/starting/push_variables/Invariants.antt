@@ -1,6 +1,5 @@
 -- The entries so far, and those of the numbers that are left.
-use Rattle.std.proofs.Common.{◌≡◌, ◌++◌, drop}
-use Rattle.int_tableau.specs.Starts.{column_entries}
+use Rattle.int_tableau.proofs.Common.{◌≡◌, ◌++◌, drop, column_entries}
 use Rattle.int_tableau.proofs.starting.push_variables.Given as goal
 
 abbrev pub invariant-loop-number : goal.invariant-loop-number

@@ -1,20 +1,5 @@
 -- The entries that are pushed are those of the row's line.
-use Rattle.std.proofs.Common.{◌≡◌, ◌+◌, ◌++◌, ℕ, ℤ, pos, Bool, List, [], ◌∷◌, sym, ap, ap₂, ◌∙◌, subst, to_z, of_z, lit<, if◌then◌else◌}
-use Rattle.std.specs.Int.{w128}
-use Rattle.std.proofs.lemmas.List.{append_assoc}
-use Rattle.std.proofs.lemmas.Result.{IfOk-weaker}
-use Rattle.exact_num.specs.Range.{InRange, all_fit}
-use Rattle.exact_num.proofs.RangeLaws.{back_in_range}
-use Rattle.row_core.specs.declared.Sense.{Sense}
-use Rattle.row_core.specs.declared.Var.{Var}
-use Rattle.row_core.specs.Numbers.{keys_of, numbers_of}
-use Rattle.row_core.proofs.CombinedLaws.{row_fits, rhs_fits}
-use Rattle.written_method.specs.FirstTableau.{as_most, width_of}
-use Rattle.written_method.specs.Lines.{Line}
-use Rattle.written_method.specs.Programs.{inequality_of}
-use Rattle.int_tableau.specs.Entries.{IsSparse}
-use Rattle.int_tableau.specs.LineView.{line_seen}
-use Rattle.int_tableau.specs.Starts.{column_entries, placed, x0_column}
+use Rattle.int_tableau.proofs.Common.{◌≡◌, ◌+◌, ◌++◌, ℕ, ℤ, pos, Bool, List, [], ◌∷◌, sym, ap, ap₂, ◌∙◌, subst, to_z, of_z, lit<, if◌then◌else◌, w128, append_assoc, IfOk-weaker, InRange, all_fit, back_in_range, Sense, Var, keys_of, numbers_of, row_fits, rhs_fits, as_most, width_of, Line, inequality_of, IsSparse, line_seen, column_entries, placed, x0_column}
 use Rattle.int_tableau.proofs.StartLaws.{row_line-seen, row_entries-IsSparse}
 use Rattle.int_tableau.proofs.starting.row_line.Goals as goal
 

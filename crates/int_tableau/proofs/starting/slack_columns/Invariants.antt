@@ -1,6 +1,5 @@
 -- The columns so far, and those that are left.
-use Rattle.std.proofs.Common.{◌≡◌, ◌+◌, ◌-◌, ◌++◌}
-use Rattle.written_method.specs.FirstTableau.{counted_from}
+use Rattle.int_tableau.proofs.Common.{◌≡◌, ◌+◌, ◌-◌, ◌++◌, counted_from}
 use Rattle.int_tableau.proofs.starting.slack_columns.Given as goal
 
 abbrev pub invariant-loop-position : goal.invariant-loop-position

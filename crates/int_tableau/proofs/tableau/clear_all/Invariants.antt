@@ -1,8 +1,5 @@
 -- The lines so far are cleared, and the others are as they were.
-use Rattle.std.proofs.Common.{◌≡◌, ◌++◌, true, map, take, drop}
-use Rattle.std.specs.Prelude.{flat_map}
-use Rattle.exact_num.specs.Range.{all_fit}
-use Rattle.written_method.specs.Lines.{cleared, cleared_formed}
+use Rattle.int_tableau.proofs.Common.{◌≡◌, ◌++◌, true, map, take, drop, flat_map, all_fit, cleared, cleared_formed}
 use Rattle.int_tableau.proofs.tableau.clear_all.Given as goal
 
 abbrev pub invariant-loop-line : goal.invariant-loop-line

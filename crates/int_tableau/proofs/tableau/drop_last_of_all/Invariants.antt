@@ -1,6 +1,5 @@
 -- The lines so far are shorter, and the others are as they were.
-use Rattle.std.proofs.Common.{◌≡◌, ◌++◌, map, take, drop}
-use Rattle.written_method.specs.Tableaus.{without_last}
+use Rattle.int_tableau.proofs.Common.{◌≡◌, ◌++◌, map, take, drop, without_last}
 use Rattle.int_tableau.proofs.tableau.drop_last_of_all.Given as goal
 
 abbrev pub invariant-loop-line : goal.invariant-loop-line

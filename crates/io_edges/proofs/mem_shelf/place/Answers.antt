@@ -1,7 +1,5 @@
-use Rattle.std.proofs.Common.{◌≡◌, Some, None, sym, ap, ◌∙◌}
-use Rattle.io_edges.specs.Named.{contents}
+use Rattle.io_edges.proofs.Common.{◌≡◌, Some, None, sym, ap, ◌∙◌, contents, position}
 use Rattle.io_edges.proofs.FilesLemmas.{has_name, in_place, following}
-use Rattle.std.specs.List.{position}
 use Rattle.io_edges.proofs.mem_shelf.place.Goals as goal
 
 pub returns-in-Some-clause-ok : goal.returns-in-Some-clause-ok

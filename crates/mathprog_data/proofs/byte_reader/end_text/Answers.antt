@@ -1,18 +1,5 @@
-use Rattle.std.proofs.Common.{◌≡◌, ◌+◌, ◌-◌, [], ℕ, List, drop, take, length, slice_range, true, Ok, Err, ap, sym, subst, ◌∙◌, arith}
-use Rattle.std.proofs.lemmas.Bool.{cond-true, cond-false}
-use Rattle.std.proofs.lemmas.Result.{IfOk-weaker}
-use Rattle.mathprog_data.specs.declared.fault.ReadFail.TheVariants.{Fault}
-use Rattle.mathprog_data.specs.BlocksView.{blocks_told}
-use Rattle.mathprog_data.specs.DraftViews.{draft_view}
-use Rattle.mathprog_data.specs.Faults.{end_too_soon}
-use Rattle.mathprog_data.specs.LexingMachine.{token_from}
-use Rattle.mathprog_data.specs.LexingRuns.{run, and_then, nothing_more}
-use Rattle.mathprog_data.specs.MachineStates.{drafted}
-use Rattle.mathprog_data.specs.MachineSteps.{may_end}
-use Rattle.mathprog_data.specs.MachineViews.{open_view}
+use Rattle.mathprog_data.proofs.Common.{◌≡◌, ◌+◌, ◌-◌, [], ℕ, List, drop, take, length, slice_range, true, Ok, Err, ap, sym, subst, ◌∙◌, arith, cond-true, cond-false, IfOk-weaker, Fault, blocks_told, draft_view, end_too_soon, token_from, run, and_then, nothing_more, drafted, may_end, open_view, place_after, Reads, Refuses}
 use Rattle.mathprog_data.specs.PieceRuns.{IfEarlier, AreKept, outcome_after, seen_from}
-use Rattle.mathprog_data.specs.Places.{place_after}
-use Rattle.mathprog_data.specs.ReadingRuns.{Reads, Refuses}
 use Rattle.mathprog_data.proofs.PieceSteps.{end_from}
 use Rattle.mathprog_data.proofs.TokenRunLemmas.{run_end}
 use Rattle.mathprog_data.proofs.byte_reader.end_text.Goals as goal

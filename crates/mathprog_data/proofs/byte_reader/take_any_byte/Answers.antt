@@ -1,6 +1,4 @@
-use Rattle.std.proofs.Common.{◌≡◌, ◌+◌, ◌≤◌, ◌∷◌, ℕ, List, false, Ok, length, slice_range, sym, subst, ap, ◌∙◌, arith}
-use Rattle.mathprog_data.specs.LexingMachine.{token_from, GoesOn, taken}
-use Rattle.mathprog_data.specs.LexingRuns.{run, and_then}
+use Rattle.mathprog_data.proofs.Common.{◌≡◌, ◌+◌, ◌≤◌, ◌∷◌, ℕ, List, false, Ok, length, slice_range, sym, subst, ap, ◌∙◌, arith, token_from, GoesOn, taken, run, and_then}
 use Rattle.mathprog_data.specs.PieceRuns.{IfEarlier, outcome_after, seen_from, IsKept, AreKept, IsShown}
 use Rattle.mathprog_data.proofs.LexingSteps.{follow}
 use Rattle.mathprog_data.proofs.PieceSteps.{before_from, middle_from, taken_from, step_goes_on}

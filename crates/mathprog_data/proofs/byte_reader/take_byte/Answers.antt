@@ -1,6 +1,4 @@
-use Rattle.std.proofs.Common.{ap, subst, ◌∙◌}
-use Rattle.mathprog_data.specs.LexingRuns.{run}
-use Rattle.mathprog_data.specs.PieceRuns.{outcome_after, IsShown}
+use Rattle.mathprog_data.proofs.Common.{ap, subst, ◌∙◌, run, outcome_after, IsShown}
 use Rattle.mathprog_data.proofs.byte_reader.take_byte.Goals as goal
 
 pub returns-in-Some-clause-fault : goal.returns-in-Some-clause-fault

@@ -1,10 +1,6 @@
 use Rattle.std.proofs.Common.{◌≡◌, ◌+◌, ◌≤◌, ◌∷◌, ◌++◌, [], drop, take, length, get_or, Ok, Err, refl, ap, sym, subst, ◌∙◌, arith, append_assoc, append-nil, take-add, drop-drop, length-drop}
 use Rattle.std.proofs.lemmas.List.{take_more, take_all}
-use Rattle.mathprog_data.specs.declared.fault.ReadFail.TheVariants.{Fault}
-use Rattle.mathprog_data.specs.LexingMachine.{token_from, next_mark}
-use Rattle.mathprog_data.specs.LexingRuns.{run}
-use Rattle.mathprog_data.specs.PieceRuns.{outcome_after}
-use Rattle.mathprog_data.specs.Places.{place_after}
+use Rattle.mathprog_data.proofs.Common.{Fault, token_from, next_mark, run, outcome_after, place_after}
 use Rattle.mathprog_data.proofs.LexingPlaces.{place_after_byte}
 use Rattle.mathprog_data.proofs.PieceLaws.{kept_on, shown_on, goes_on_on, goes_on_same, goes_on_from}
 use Rattle.mathprog_data.proofs.TokenRunLemmas.{drop_byte, drop_end, rest_of}

@@ -1,8 +1,4 @@
-use Rattle.std.proofs.Common.{◌≡◌, ◌+◌, ◌*◌, ◌-◌, ◌≤◌, ◌++◌, ℕ, List, drop, take, length}
-use Rattle.mathprog_data.specs.LexingMachine.{GoesOn, token_from}
-use Rattle.mathprog_data.specs.LexingRuns.{run}
-use Rattle.mathprog_data.specs.PieceRuns.{outcome_after, IsShown}
-use Rattle.mathprog_data.specs.Places.{place_after}
+use Rattle.mathprog_data.proofs.Common.{◌≡◌, ◌+◌, ◌*◌, ◌-◌, ◌≤◌, ◌++◌, ℕ, List, drop, take, length, GoesOn, token_from, run, outcome_after, IsShown, place_after}
 use Rattle.mathprog_data.proofs.byte_reader.take_piece.Given as goal
 
 abbrev pub invariant-loop-taken : goal.invariant-loop-taken

@@ -1,14 +1,6 @@
-use Rattle.std.proofs.Common.{◌≡◌, sym, ap, subst, ◌∙◌}
-use Rattle.mathprog_data.specs.declared.fault.ReadFail.TheVariants.{Fault}
+use Rattle.mathprog_data.proofs.Common.{◌≡◌, sym, ap, subst, ◌∙◌, Fault, draft_view, token_from, drafted, reader_view, standing_of, IsKnownOf, Reads, Refuses}
 use Rattle.mathprog_data.specs.declared.pieces.Stage.TheVariants as stages
-use Rattle.mathprog_data.specs.DraftViews.{draft_view}
-use Rattle.mathprog_data.specs.LexingMachine.{token_from}
-use Rattle.mathprog_data.specs.MachineStates.{drafted}
-use Rattle.mathprog_data.specs.MachineViews.{reader_view}
 use Rattle.mathprog_data.specs.PieceRuns.{AreKept}
-use Rattle.mathprog_data.specs.PieceStages.{standing_of}
-use Rattle.mathprog_data.specs.Pieces.{IsKnownOf}
-use Rattle.mathprog_data.specs.ReadingRuns.{Reads, Refuses}
 use Rattle.mathprog_data.proofs.PieceLaws.{going_at_end, settled_at_end}
 use Rattle.mathprog_data.proofs.pieces.read_end.Goals as goal
 

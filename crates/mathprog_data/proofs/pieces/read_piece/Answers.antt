@@ -1,11 +1,4 @@
-use Rattle.std.proofs.Common.{◌≡◌, ◌+◌, ◌≤◌, ◌++◌, Ok, Err, length, sym, ap, subst, ◌∙◌, arith}
-use Rattle.mathprog_data.specs.DraftViews.{draft_view}
-use Rattle.mathprog_data.specs.LexingMachine.{token_from}
-use Rattle.mathprog_data.specs.LexingRuns.{run}
-use Rattle.mathprog_data.specs.MachineStates.{drafted}
-use Rattle.mathprog_data.specs.MachineViews.{reader_view}
-use Rattle.mathprog_data.specs.PieceRuns.{outcome_after}
-use Rattle.mathprog_data.specs.ReadingRuns.{Reads, outcome_of}
+use Rattle.mathprog_data.proofs.Common.{◌≡◌, ◌+◌, ◌≤◌, ◌++◌, Ok, Err, length, sym, ap, subst, ◌∙◌, arith, draft_view, token_from, run, drafted, reader_view, outcome_after, Reads, outcome_of}
 use Rattle.mathprog_data.proofs.PieceLaws.{is_shown, is_shown_last, shown_on, known_on, settled_on, failed_on}
 use Rattle.mathprog_data.proofs.pieces.read_piece.Goals as goal
 

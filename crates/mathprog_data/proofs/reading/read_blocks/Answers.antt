@@ -1,5 +1,4 @@
-use Rattle.std.proofs.Common.{[]}
-use Rattle.mathprog_data.specs.Pieces.{StandsFor}
+use Rattle.mathprog_data.proofs.Common.{[], StandsFor}
 use Rattle.mathprog_data.proofs.reading.read_blocks.Goals as goal
 use Rattle.mathprog_data.proofs.reading.read_blocks.Goals.{After-finish}
 

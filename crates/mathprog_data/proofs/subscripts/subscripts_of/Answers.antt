@@ -1,5 +1,4 @@
-use Rattle.std.proofs.Common.{◌-◌, ◌≤◌, length, sym, ap, arith}
-use Rattle.std.proofs.lemmas.List.{get_or_past}
+use Rattle.mathprog_data.proofs.Common.{◌-◌, ◌≤◌, length, sym, ap, arith, get_or_past}
 use Rattle.model_sets.specs.Params.{Param, no_param, params}
 use Rattle.mathprog_data.proofs.subscripts.subscripts_of.Goals as goal
 

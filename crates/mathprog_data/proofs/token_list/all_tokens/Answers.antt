@@ -1,7 +1,4 @@
-use Rattle.std.proofs.Common.{◌≡◌, ◌+◌, drop, true, false, Ok, Err, Bool, ap, sym, ◌∙◌}
-use Rattle.mathprog_data.specs.declared.fault.ReadFail.TheVariants.{Fault}
-use Rattle.mathprog_data.specs.LexingRuns.{run, and_then, lexed_run, nothing_more}
-use Rattle.mathprog_data.specs.TokenRuns.{slices_of, slices, preceded_by, ListsAll}
+use Rattle.mathprog_data.proofs.Common.{◌≡◌, ◌+◌, drop, true, false, Ok, Err, Bool, ap, sym, ◌∙◌, Fault, run, and_then, lexed_run, nothing_more, slices_of, slices, preceded_by, ListsAll}
 use Rattle.mathprog_data.proofs.TokenRunLemmas.{run_end, all_open, all_closed, drop_byte, drop_end}
 use Rattle.mathprog_data.proofs.token_list.all_tokens.Goals as goal
 use Rattle.mathprog_data.proofs.token_list.all_tokens.Goals.{In-Ok}

@@ -1,6 +1,4 @@
-use Rattle.std.proofs.Common.{◌≡◌, drop}
-use Rattle.mathprog_data.specs.LexingRuns.{run, lexed_run}
-use Rattle.mathprog_data.specs.TokenRuns.{slices_of, slices, preceded_by}
+use Rattle.mathprog_data.proofs.Common.{◌≡◌, drop, run, lexed_run, slices_of, slices, preceded_by}
 use Rattle.mathprog_data.proofs.token_list.all_tokens.Given as goal
 
 abbrev pub invariant-loop-byte : goal.invariant-loop-byte

@@ -1,7 +1,4 @@
-use Rattle.std.proofs.Common.{Ok, ap, ◌∙◌}
-use Rattle.mathprog_data.specs.LexingMachine.{taken}
-use Rattle.mathprog_data.specs.LexingRuns.{lexed_run}
-use Rattle.mathprog_data.specs.TokenRuns.{slices_of, preceded_by}
+use Rattle.mathprog_data.proofs.Common.{Ok, ap, ◌∙◌, taken, lexed_run, slices_of, preceded_by}
 use Rattle.mathprog_data.proofs.LexingSteps.{follow}
 use Rattle.mathprog_data.proofs.TokenRunLemmas.{run_first, run_both}
 use Rattle.mathprog_data.proofs.token_list.take_any_byte.Goals as goal

@@ -1,10 +1,4 @@
-use Rattle.std.proofs.Common.{List, length, map}
-use Rattle.std.proofs.lemmas.Result.{IfOk-weaker}
-use Rattle.mathprog_data.specs.Lexemes.{Placed}
-use Rattle.mathprog_data.specs.Lexing.{Tokens}
-use Rattle.mathprog_data.specs.LexingRuns.{lexed}
-use Rattle.mathprog_data.specs.TokenSlices.{slice_of, AreSlices, AreApart}
-use Rattle.mathprog_data.specs.TokenRuns.{ListsAll, IsDone}
+use Rattle.mathprog_data.proofs.Common.{List, length, map, IfOk-weaker, Placed, Tokens, lexed, slice_of, AreSlices, AreApart, ListsAll, IsDone}
 use Rattle.mathprog_data.proofs.TokenListLaws.{listed, apart, first_fault, refuses_no_tokens, refuses_each_fault}
 use Rattle.mathprog_data.proofs.token_list.tokens.Goals as goal
 

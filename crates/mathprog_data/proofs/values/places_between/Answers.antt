@@ -1,8 +1,4 @@
-use Rattle.std.proofs.Common.{rules, ◌≡◌, ◌+◌, ◌++◌, ◌∷◌, [], ap, sym, subst, ◌∙◌, drop, get_or, length, ◌<◌}
-use Rattle.std.proofs.lemmas.List.{append_assoc}
-use Rattle.mathprog_data.specs.Slices.{index_at}
-use Rattle.mathprog_data.specs.ValuesView.{AreWithin, names_at, places_in}
-use Rattle.mathprog_data.specs.ValuesView.AreWithin.{none}
+use Rattle.mathprog_data.proofs.Common.{rules, ◌≡◌, ◌+◌, ◌++◌, ◌∷◌, [], ap, sym, subst, ◌∙◌, drop, get_or, length, ◌<◌, append_assoc, index_at, AreWithin, names_at, places_in, none}
 use Rattle.mathprog_data.proofs.ValueLemmas.{fixed_next, free_next, grown-refl, grown-trans}
 use Rattle.mathprog_data.proofs.values.places_between.Goals as goal
 use Rattle.mathprog_data.proofs.values.places_between.Goals.{in-Some, in-None+else-taken-others}

@@ -1,6 +1,4 @@
-use Rattle.std.proofs.Common.{◌≡◌, ◌++◌, drop, length}
-use Rattle.mathprog_data.specs.Slices.{index_at}
-use Rattle.mathprog_data.specs.ValuesView.{AreWithin, Grown, names_at, places_in}
+use Rattle.mathprog_data.proofs.Common.{◌≡◌, ◌++◌, drop, length, index_at, AreWithin, Grown, names_at, places_in}
 use Rattle.mathprog_data.proofs.values.places_between.Given as goal
 
 abbrev pub invariant-loop-place : goal.invariant-loop-place

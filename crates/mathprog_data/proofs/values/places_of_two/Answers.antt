@@ -1,9 +1,4 @@
-use Rattle.std.proofs.Common.{rules, ◌≡◌, ◌+◌, ◌++◌, ◌∷◌, [], ap, sym, subst, ◌∙◌, drop, length, refl, List, ◌<◌, ◌≤◌, arith}
-use Rattle.std.proofs.lemmas.List.{append_assoc}
-use Rattle.mathprog_data.specs.Slices.{index_at}
-use Rattle.mathprog_data.specs.Symbols.{Name}
-use Rattle.mathprog_data.specs.ValuesView.{AreWithin, names_at, places_in}
-use Rattle.mathprog_data.specs.ValuesView.AreWithin.{none}
+use Rattle.mathprog_data.proofs.Common.{rules, ◌≡◌, ◌+◌, ◌++◌, ◌∷◌, [], ap, sym, subst, ◌∙◌, drop, length, refl, List, ◌<◌, ◌≤◌, arith, append_assoc, index_at, Name, AreWithin, names_at, places_in, none}
 use Rattle.mathprog_data.proofs.ValueLemmas.{fixed_next, free_next, grown-refl, grown-trans}
 use Rattle.mathprog_data.proofs.values.places_of_two.Goals as goal
 use Rattle.mathprog_data.proofs.values.places_of_two.Goals.{in-Some, in-None+in-1, in-None+in-2}

@@ -1,5 +1,4 @@
-use Rattle.std.proofs.Common.{ap, sym, subst, ◌∙◌, length}
-use Rattle.mathprog_data.specs.ValuesView.{AreWithin, names_at, places_in}
+use Rattle.mathprog_data.proofs.Common.{ap, sym, subst, ◌∙◌, length, AreWithin, names_at, places_in}
 use Rattle.mathprog_data.proofs.ValueLemmas.{names_at-more, within-more}
 use Rattle.mathprog_data.proofs.values.point_to.Goals as goal
 

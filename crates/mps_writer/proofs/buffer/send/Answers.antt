@@ -1,8 +1,4 @@
-use Rattle.std.proofs.Common.{◌-◌, drop, length, take, arith}
-use Rattle.std.proofs.lemmas.List.{take_rest}
-use Rattle.std.proofs.lemmas.Grind.{common_steps}
-use Rattle.io_edges.specs.Outputs.{output}
-use Rattle.io_edges.proofs.OutputLaws.{output-stays}
+use Rattle.mps_writer.proofs.Common.{◌-◌, drop, length, take, arith, take_rest, common_steps, output, output-stays}
 use Rattle.mps_writer.proofs.TakenLaws.{rose-earlier, send-end, send-more, stays-cut}
 use Rattle.mps_writer.proofs.buffer.send.Goals as goal
 

@@ -1,6 +1,4 @@
-use Rattle.std.proofs.Common.{◌-◌, ◌≤◌, length, drop}
-use Rattle.io_edges.specs.Outputs.{output}
-use Rattle.mps_writer.specs.Steps.{LeavesOf}
+use Rattle.mps_writer.proofs.Common.{◌-◌, ◌≤◌, length, drop, output, LeavesOf}
 use Rattle.mps_writer.proofs.buffer.send.Given as goal
 
 -- what isn't sent is left

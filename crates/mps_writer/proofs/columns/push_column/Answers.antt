@@ -1,8 +1,4 @@
-use Rattle.std.proofs.Common.{◌∙◌, ◌++◌, ◌+◌, ◌<◌, List, ℕ, drop, get_or, length, ap, sym, refl, arith, append_assoc, pos}
-use Rattle.std.proofs.lemmas.List.{append-nil}
-use Rattle.mps_writer.specs.Entries.{lines_of}
-use Rattle.mps_writer.specs.MpsText.{entry_line}
-use Rattle.mps_writer.specs.declared.entries.Entry.{Entry}
+use Rattle.mps_writer.proofs.Common.{◌∙◌, ◌++◌, ◌+◌, ◌<◌, List, ℕ, drop, get_or, length, ap, sym, refl, arith, append_assoc, pos, append-nil, lines_of, entry_line, Entry}
 use Rattle.mps_writer.proofs.ColumnText.{lines-earlier, lines-own, lines-later}
 use Rattle.mps_writer.proofs.columns.push_column.Goals as goal
 use Rattle.mps_writer.proofs.columns.push_column.Goals.{in-Less, in-Equal+in_ok-push_entry-in-Equal}

@@ -1,5 +1,4 @@
-use Rattle.std.proofs.Common.{◌≡◌, ◌++◌, drop}
-use Rattle.mps_writer.specs.Entries.{following, lines_of}
+use Rattle.mps_writer.proofs.Common.{◌≡◌, ◌++◌, drop, following, lines_of}
 use Rattle.mps_writer.proofs.columns.push_column.Given as goal
 
 -- with the lines of the entries that are left, the lines so far are those of the column

@@ -1,7 +1,4 @@
-use Rattle.std.proofs.Common.{◌<◌, List, drop, get_or, length, sym, subst, refl, arith}
-use Rattle.row_core.specs.declared.Var.{Var}
-use Rattle.mps_writer.specs.Entries.{Rises}
-use Rattle.mps_writer.specs.declared.entries.Entry.{Entry}
+use Rattle.mps_writer.proofs.Common.{◌<◌, List, drop, get_or, length, sym, subst, refl, arith, Var, Rises, Entry}
 use Rattle.mps_writer.proofs.ColumnText.{following-rises}
 use Rattle.mps_writer.proofs.ColumnTurns.{column-turn}
 use Rattle.mps_writer.proofs.columns.push_columns.Goals as goal

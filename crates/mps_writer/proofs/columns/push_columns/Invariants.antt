@@ -1,7 +1,4 @@
-use Rattle.std.proofs.Common.{◌≡◌, ◌≤◌, ◌+◌, ◌++◌, drop, length}
-use Rattle.std.specs.List.{flat_map, enumerate_from}
-use Rattle.mps_writer.specs.Entries.{Rises, column_text}
-use Rattle.mps_writer.specs.MpsText.{numbered}
+use Rattle.mps_writer.proofs.Common.{◌≡◌, ◌≤◌, ◌+◌, ◌++◌, drop, length, flat_map, enumerate_from, Rises, column_text, numbered}
 use Rattle.mps_writer.proofs.columns.push_columns.Given as goal
 
 -- with the columns that are left, over the entries that are left, the lines so far are those of all columns

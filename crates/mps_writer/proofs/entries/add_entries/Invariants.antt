@@ -1,6 +1,4 @@
-use Rattle.std.proofs.Common.{◌≡◌, ◌++◌, drop, map}
-use Rattle.row_core.specs.Contents.{contents_of}
-use Rattle.mps_writer.specs.Entries.{row_entries, entry_of}
+use Rattle.mps_writer.proofs.Common.{◌≡◌, ◌++◌, drop, map, contents_of, row_entries, entry_of}
 use Rattle.mps_writer.proofs.entries.add_entries.Given as goal
 
 -- with the entries that are left, the entries so far are those of the row

@@ -1,7 +1,4 @@
-use Rattle.std.proofs.Common.{◌≡◌, ◌+◌, ◌++◌, drop, map}
-use Rattle.std.specs.List.{flat_map, enumerate_from}
-use Rattle.row_core.specs.Contents.{contents_of}
-use Rattle.mps_writer.specs.Entries.{row_entries, entries_of}
+use Rattle.mps_writer.proofs.Common.{◌≡◌, ◌+◌, ◌++◌, drop, map, flat_map, enumerate_from, contents_of, row_entries, entries_of}
 use Rattle.mps_writer.proofs.entries.all_entries.Given as goal
 
 -- with the entries of the rows that are left, the entries so far are those of all rows

@@ -1,5 +1,4 @@
-use Rattle.std.proofs.Common.{rules}
-use Rattle.std.proofs.lemmas.Fn.{always_returns_same}
+use Rattle.mps_writer.proofs.Common.{rules, always_returns_same}
 use Rattle.mps_writer.proofs.RearrangedLaws.{key_of_entry, rearranged-by_key, rearranged-same}
 use Rattle.mps_writer.proofs.key_order.sort_piece.Goals as goal
 

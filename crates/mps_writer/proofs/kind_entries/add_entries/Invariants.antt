@@ -1,6 +1,5 @@
 use Rattle.std.proofs.Common.{◌≡◌, ◌++◌, drop, map, filter}
-use Rattle.row_core.specs.Contents.{contents_of}
-use Rattle.mps_writer.specs.Entries.{entry_of, is_of_kind, row_entries}
+use Rattle.mps_writer.proofs.Common.{contents_of, entry_of, is_of_kind, row_entries}
 use Rattle.mps_writer.proofs.kind_entries.add_entries.Given as goal
 
 -- with those of the entries that are left, the entries so far are those of the row

@@ -1,8 +1,5 @@
-use Rattle.std.proofs.Common.{◌≡◌, ◌++◌, List, ap, sym, ◌∙◌}
+use Rattle.mps_writer.proofs.Common.{◌≡◌, ◌++◌, List, ap, sym, ◌∙◌, append-nil, has_kind, Entry}
 use Rattle.std.specs.Prelude.{false}
-use Rattle.std.proofs.lemmas.List.{append-nil}
-use Rattle.row_core.specs.Sources.{has_kind}
-use Rattle.mps_writer.specs.declared.entries.Entry.{Entry}
 use Rattle.mps_writer.proofs.GatheredLaws.{none-gathered}
 use Rattle.mps_writer.proofs.kind_entries.add_equation.Goals as goal
 

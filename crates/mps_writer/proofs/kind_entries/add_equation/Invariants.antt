@@ -1,6 +1,5 @@
 use Rattle.std.proofs.Common.{◌≡◌, ◌++◌, length, filter}
-use Rattle.std.specs.List.{flat_map}
-use Rattle.mps_writer.specs.Entries.{is_of_kind, row_entries}
+use Rattle.mps_writer.proofs.Common.{flat_map, is_of_kind, row_entries}
 use Rattle.mps_writer.proofs.GatheredLaws.{entries_in}
 use Rattle.mps_writer.proofs.kind_entries.add_equation.Given as goal
 

@@ -1,5 +1,4 @@
-use Rattle.std.proofs.Common.{◌++◌, List, ap, ◌∙◌, refl, arith}
-use Rattle.mps_writer.specs.declared.entries.Entry.{Entry}
+use Rattle.mps_writer.proofs.Common.{◌++◌, List, ap, ◌∙◌, refl, arith, Entry}
 use Rattle.mps_writer.proofs.GatheredLaws.{gather-end, gather-turn, gathered-all}
 use Rattle.mps_writer.proofs.kind_entries.add_kind.Goals as goal
 

@@ -1,6 +1,4 @@
-use Rattle.std.proofs.Common.{◌≡◌, ◌≤◌, ◌-◌, ◌++◌}
-use Rattle.std.specs.List.{flat_map, range_with_len}
-use Rattle.mps_writer.specs.Entries.{entries_of_kind}
+use Rattle.mps_writer.proofs.Common.{◌≡◌, ◌≤◌, ◌-◌, ◌++◌, flat_map, range_with_len, entries_of_kind}
 use Rattle.mps_writer.proofs.GatheredLaws.{entries_in}
 use Rattle.mps_writer.proofs.kind_entries.add_kind.Given as goal
 

@@ -1,8 +1,4 @@
-use Rattle.std.proofs.Common.{◌≡◌, ◌++◌, subst, ap, ◌∙◌, List, rules, IsPermutation}
-use Rattle.std.specs.List.{filter}
-use Rattle.std.proofs.lemmas.Fn.{always_returns_same}
-use Rattle.mps_writer.specs.Entries.{IsRearranged, entries_of_kind, is_of}
-use Rattle.mps_writer.specs.declared.entries.Entry.{Entry}
+use Rattle.mps_writer.proofs.Common.{◌≡◌, ◌++◌, subst, ap, ◌∙◌, List, rules, IsPermutation, filter, always_returns_same, IsRearranged, entries_of_kind, is_of, Entry}
 use Rattle.mps_writer.proofs.RearrangedLaws.{put-back, sorted-rearranged}
 use Rattle.mps_writer.proofs.SortedEntries.{variable_of, Rises-from_sorted, stable-by_variable}
 use Rattle.mps_writer.proofs.kind_entries.sorted_entries_of_kind.Goals as goal

@@ -1,12 +1,5 @@
 use Rattle.std.proofs.Common.{◌≡◌, ◌∙◌, ◌++◌, ℕ, List, [], append-nil, refl, ap, sym, subst, arith}
-use Rattle.std.specs.List.{AllByRecursion, flat_map}
-use Rattle.row_core.specs.Numbers.{is_zero}
-use Rattle.row_core.specs.Contents.{RowContents, contents_of}
-use Rattle.row_core.specs.Sources.{rows_of_equation}
-use Rattle.row_core.proofs.EquationLaws.{all-of_equation}
-use Rattle.io_edges.specs.Outputs.{output}
-use Rattle.mps_writer.specs.MpsText.{IsNamedRow}
-use Rattle.mps_writer.specs.SectionLines.{HasNoSides, lines_in}
+use Rattle.mps_writer.proofs.Common.{AllByRecursion, flat_map, is_zero, RowContents, contents_of, rows_of_equation, all-of_equation, output, IsNamedRow, HasNoSides, lines_in}
 use Rattle.mps_writer.proofs.SideLaws.{no-lines, seen-more}
 use Rattle.mps_writer.proofs.TakenLaws.{fails-now, item-end, item-fails, item-taken, leaves-all}
 use Rattle.mps_writer.proofs.sections.send_equation.Goals as goal

@@ -1,10 +1,4 @@
-use Rattle.std.proofs.Common.{◌≡◌, ◌≤◌, ◌++◌, length, false}
-use Rattle.std.specs.List.{AllByRecursion, flat_map}
-use Rattle.row_core.specs.Sources.{rows_of_equation}
-use Rattle.io_edges.specs.Outputs.{output}
-use Rattle.mps_writer.specs.MpsText.{IsNamedRow}
-use Rattle.mps_writer.specs.SectionLines.{HasNoSides, lines_in}
-use Rattle.mps_writer.specs.Steps.{LeavesOf}
+use Rattle.mps_writer.proofs.Common.{◌≡◌, ◌≤◌, ◌++◌, length, false, AllByRecursion, flat_map, rows_of_equation, output, IsNamedRow, HasNoSides, lines_in, LeavesOf}
 use Rattle.mps_writer.proofs.sections.send_equation.Given as goal
 
 -- with the lines of the rows that are ahead, the lines so far are those of the equation

@@ -1,7 +1,4 @@
-use Rattle.std.proofs.Common.{◌++◌, arith}
-use Rattle.row_core.specs.Contents.{contents_of}
-use Rattle.io_edges.specs.Outputs.{output}
-use Rattle.mps_writer.specs.SectionLines.{lines_in}
+use Rattle.mps_writer.proofs.Common.{◌++◌, arith, contents_of, output, lines_in}
 use Rattle.mps_writer.proofs.TakenLaws.{cuts-none}
 use Rattle.mps_writer.proofs.sections.send_lines.Goals as goal
 

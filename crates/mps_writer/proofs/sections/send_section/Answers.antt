@@ -1,10 +1,4 @@
-use Rattle.std.proofs.Common.{◌≡◌, ◌∙◌, ◌+◌, ◌-◌, ◌<◌, ◌++◌, ℕ, List, false, refl, ap, sym, subst, arith}
-use Rattle.std.specs.List.{flat_map, range_with_len}
-use Rattle.row_core.specs.Contents.{RowContents}
-use Rattle.row_core.specs.Sources.{rows_of_equation}
-use Rattle.io_edges.specs.Outputs.{output}
-use Rattle.mps_writer.specs.MpsText.{numbered}
-use Rattle.mps_writer.specs.SectionLines.{HasNoSides, lines_in}
+use Rattle.mps_writer.proofs.Common.{◌≡◌, ◌∙◌, ◌+◌, ◌-◌, ◌<◌, ◌++◌, ℕ, List, false, refl, ap, sym, subst, arith, flat_map, range_with_len, RowContents, rows_of_equation, output, numbered, HasNoSides, lines_in}
 use Rattle.mps_writer.proofs.SectionLaws.{equation-next, equation_lines, equations-end, section-whole}
 use Rattle.mps_writer.proofs.SideLaws.{sides-more}
 use Rattle.mps_writer.proofs.TakenLaws.{item-end, item-fails, item-taken, leaves-all}

@@ -1,10 +1,5 @@
-use Rattle.std.proofs.Common.{◌≡◌, ◌≤◌, ◌-◌, ◌++◌}
-use Rattle.std.specs.List.{flat_map, range_with_len}
-use Rattle.io_edges.specs.Outputs.{output}
-use Rattle.mps_writer.specs.MpsText.{numbered}
-use Rattle.mps_writer.specs.SectionLines.{AreSidesOf, lines_in}
+use Rattle.mps_writer.proofs.Common.{◌≡◌, ◌≤◌, ◌-◌, ◌++◌, flat_map, range_with_len, output, numbered, AreSidesOf, lines_in, LeavesOf}
 use Rattle.mps_writer.proofs.SectionLaws.{equation_lines}
-use Rattle.mps_writer.specs.Steps.{LeavesOf}
 use Rattle.mps_writer.proofs.sections.send_section.Given as goal
 
 -- the lines of the equations so far were written

@@ -1,8 +1,4 @@
-use Rattle.std.proofs.Common.{◌++◌, ℕ, List, ap, subst}
-use Rattle.row_core.specs.Contents.{RowContents}
-use Rattle.io_edges.specs.Outputs.{output}
-use Rattle.mps_writer.specs.MpsText.{rows_text, sections_text}
-use Rattle.mps_writer.specs.Steps.{Fails, LeavesOf, Takes}
+use Rattle.mps_writer.proofs.Common.{◌++◌, ℕ, List, ap, subst, RowContents, output, rows_text, sections_text, Fails, LeavesOf, Takes}
 use Rattle.mps_writer.proofs.TakenLaws.{cut-of, ends-cut, ends-sent, prefix-cut, then-last}
 use Rattle.mps_writer.proofs.sending.mps_to.Goals as goal
 

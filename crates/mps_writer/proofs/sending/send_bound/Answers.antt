@@ -1,6 +1,4 @@
-use Rattle.std.proofs.Common.{◌++◌, arith}
-use Rattle.io_edges.specs.Outputs.{output}
-use Rattle.mps_writer.specs.MpsText.{bound_line}
+use Rattle.mps_writer.proofs.Common.{◌++◌, arith, output, bound_line}
 use Rattle.mps_writer.proofs.TakenLaws.{cuts-none}
 use Rattle.mps_writer.proofs.sending.send_bound.Goals as goal
 

@@ -1,8 +1,4 @@
-use Rattle.std.proofs.Common.{◌≡◌, ◌++◌, ◌∙◌, Bool, true, cond, ℕ, List, [], codes, refl, ap, sym, subst, arith}
-use Rattle.std.specs.List.{flat_map, list_any}
-use Rattle.io_edges.specs.Outputs.{output}
-use Rattle.mps_writer.specs.MpsText.{bound_line, is_free_column, line, numbered}
-use Rattle.mps_writer.specs.Steps.{Fails, Takes}
+use Rattle.mps_writer.proofs.Common.{◌≡◌, ◌++◌, ◌∙◌, Bool, true, cond, ℕ, List, [], codes, refl, ap, sym, subst, arith, flat_map, list_any, output, bound_line, is_free_column, line, numbered, Fails, Takes}
 use Rattle.mps_writer.proofs.TakenLaws.{leaves-all, then-fails, then-last, then-more}
 use Rattle.mps_writer.proofs.sending.send_bounds.Goals as goal
 

@@ -1,9 +1,4 @@
-use Rattle.std.proofs.Common.{◌<◌, ◌+◌, ◌++◌, ℕ, List, drop, get_or, length, refl, ap, arith}
-use Rattle.std.specs.List.{enumerate_from, flat_map}
-use Rattle.std.proofs.lemmas.List.{at_drop_all, drop_more}
-use Rattle.row_core.specs.declared.Var.{Var}
-use Rattle.io_edges.specs.Outputs.{output}
-use Rattle.mps_writer.specs.MpsText.{bound_line, numbered}
+use Rattle.mps_writer.proofs.Common.{◌<◌, ◌+◌, ◌++◌, ℕ, List, drop, get_or, length, refl, ap, arith, enumerate_from, flat_map, at_drop_all, drop_more, Var, output, bound_line, numbered}
 use Rattle.mps_writer.proofs.TakenLaws.{item-end, item-fails, item-taken}
 use Rattle.mps_writer.proofs.sending.send_free_columns.Goals as goal
 

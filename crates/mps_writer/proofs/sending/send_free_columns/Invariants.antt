@@ -1,8 +1,4 @@
-use Rattle.std.proofs.Common.{◌≤◌, ◌+◌, ◌++◌, drop}
-use Rattle.std.specs.List.{enumerate_from, flat_map}
-use Rattle.io_edges.specs.Outputs.{output}
-use Rattle.mps_writer.specs.MpsText.{bound_line, numbered}
-use Rattle.mps_writer.specs.Steps.{LeavesOf}
+use Rattle.mps_writer.proofs.Common.{◌≤◌, ◌+◌, ◌++◌, drop, enumerate_from, flat_map, output, bound_line, numbered, LeavesOf}
 use Rattle.mps_writer.proofs.sending.send_free_columns.Given as goal
 
 -- with the lines of the columns that are left, the lines so far are those of all columns

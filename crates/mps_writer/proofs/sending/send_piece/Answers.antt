@@ -1,5 +1,4 @@
-use Rattle.std.proofs.Common.{◌++◌, arith}
-use Rattle.io_edges.specs.Outputs.{output}
+use Rattle.mps_writer.proofs.Common.{◌++◌, arith, output}
 use Rattle.mps_writer.proofs.TakenLaws.{cuts-none}
 use Rattle.mps_writer.proofs.sending.send_piece.Goals as goal
 

@@ -1,11 +1,4 @@
-use Rattle.std.proofs.Common.{◌≤◌, ◌++◌, ◌∙◌, ℕ, List, ap, codes, sym, subst, arith}
-use Rattle.std.specs.List.{AllByRecursion, flat_map}
-use Rattle.row_core.specs.declared.Var.{Var}
-use Rattle.row_core.specs.Contents.{RowContents}
-use Rattle.io_edges.specs.Outputs.{output}
-use Rattle.mps_writer.specs.Entries.{HasEquation}
-use Rattle.mps_writer.specs.MpsText.{bounds, column_lines, line, numbered, rhs_line, row_lines, sections_text}
-use Rattle.mps_writer.specs.Steps.{Fails, LeavesOf}
+use Rattle.mps_writer.proofs.Common.{◌≤◌, ◌++◌, ◌∙◌, ℕ, List, ap, codes, sym, subst, arith, AllByRecursion, flat_map, Var, RowContents, output, HasEquation, bounds, column_lines, line, numbered, rhs_line, row_lines, sections_text, Fails, LeavesOf}
 use Rattle.mps_writer.proofs.SectionLaws.{named-equations, sections-are}
 use Rattle.mps_writer.proofs.SideLaws.{sides-none}
 use Rattle.mps_writer.proofs.TakenLaws.{leaves-all, then-fails, then-last, then-more}

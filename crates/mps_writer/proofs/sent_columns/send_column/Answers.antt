@@ -1,10 +1,4 @@
-use Rattle.std.proofs.Common.{◌≡◌, ◌≤◌, ◌∙◌, ◌++◌, ◌+◌, ◌<◌, List, [], ℕ, drop, get_or, length, ap, sym, subst, refl, arith, append_assoc, pos}
-use Rattle.std.proofs.lemmas.List.{append-nil, at_drop_all}
-use Rattle.io_edges.specs.Outputs.{output}
-use Rattle.mps_writer.specs.Entries.{lines_of}
-use Rattle.mps_writer.specs.MpsText.{column_head, entry_line}
-use Rattle.mps_writer.specs.Steps.{LeavesOf}
-use Rattle.mps_writer.specs.declared.entries.Entry.{Entry}
+use Rattle.mps_writer.proofs.Common.{◌≡◌, ◌≤◌, ◌∙◌, ◌++◌, ◌+◌, ◌<◌, List, [], ℕ, drop, get_or, length, ap, sym, subst, refl, arith, append_assoc, pos, append-nil, at_drop_all, output, lines_of, column_head, entry_line, LeavesOf, Entry}
 use Rattle.mps_writer.proofs.ColumnText.{lines-earlier, lines-own, lines-later}
 use Rattle.mps_writer.proofs.TakenLaws.{fails-more, leaves-all, leaves-more, leaves-same, then-fails, then-more}
 use Rattle.mps_writer.proofs.sent_columns.send_column.Goals as goal

@@ -1,8 +1,4 @@
-use Rattle.std.proofs.Common.{◌≡◌, ◌≤◌, ◌++◌, drop}
-use Rattle.io_edges.specs.Outputs.{output}
-use Rattle.mps_writer.specs.Entries.{following, lines_of}
-use Rattle.mps_writer.specs.MpsText.{column_head}
-use Rattle.mps_writer.specs.Steps.{LeavesOf}
+use Rattle.mps_writer.proofs.Common.{◌≡◌, ◌≤◌, ◌++◌, drop, output, following, lines_of, column_head, LeavesOf}
 use Rattle.mps_writer.proofs.sent_columns.send_column.Given as goal
 
 -- with the lines of the entries that are left, the lines so far are those of the column

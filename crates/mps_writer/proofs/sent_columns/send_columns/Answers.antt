@@ -1,15 +1,4 @@
-use Rattle.std.proofs.Common.{◌≡◌, ◌≤◌, ◌<◌, ◌+◌, ◌∙◌, ◌∷◌, ◌++◌, ℕ, List, true, drop, get_or, length, refl, ap, sym, subst, arith}
-use Rattle.std.specs.List.{enumerate_from, flat_map}
-use Rattle.std.proofs.lemmas.List.{at_drop_all, drop_more}
-use Rattle.row_core.specs.declared.Var.{Var}
-use Rattle.row_core.specs.Numbers.{ascends}
-use Rattle.row_core.specs.Order.{var_cmp}
-use Rattle.row_core.specs.Contents.{RowContents}
-use Rattle.io_edges.specs.Outputs.{output}
-use Rattle.mps_writer.specs.declared.entries.Entry.{Entry}
-use Rattle.mps_writer.specs.Entries.{following, lines_of}
-use Rattle.mps_writer.specs.Gathered.{Serves}
-use Rattle.mps_writer.specs.MpsText.{column_head, column_lines, numbered}
+use Rattle.mps_writer.proofs.Common.{◌≡◌, ◌≤◌, ◌<◌, ◌+◌, ◌∙◌, ◌∷◌, ◌++◌, ℕ, List, true, drop, get_or, length, refl, ap, sym, subst, arith, enumerate_from, flat_map, at_drop_all, drop_more, Var, ascends, var_cmp, RowContents, output, Entry, following, lines_of, Serves, column_head, column_lines, numbered}
 use Rattle.mps_writer.proofs.ColumnTurns.{ascends-drop}
 use Rattle.mps_writer.proofs.GatheredLaws.{column-own, none-serves, passed-serves}
 use Rattle.mps_writer.proofs.TakenLaws.{fails-now, item-end, item-fails, item-taken, leaves-all}

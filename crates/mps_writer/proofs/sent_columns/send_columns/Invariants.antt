@@ -1,9 +1,4 @@
-use Rattle.std.proofs.Common.{◌≡◌, ◌≤◌, ◌+◌, ◌++◌, drop}
-use Rattle.std.specs.List.{enumerate_from, flat_map}
-use Rattle.io_edges.specs.Outputs.{output}
-use Rattle.mps_writer.specs.Gathered.{Serves}
-use Rattle.mps_writer.specs.MpsText.{column_lines, numbered}
-use Rattle.mps_writer.specs.Steps.{LeavesOf}
+use Rattle.mps_writer.proofs.Common.{◌≡◌, ◌≤◌, ◌+◌, ◌++◌, drop, enumerate_from, flat_map, output, Serves, column_lines, numbered, LeavesOf}
 use Rattle.mps_writer.proofs.sent_columns.send_columns.Given as goal
 
 -- with the columns that are left, the lines so far are those of all columns; and the entries serve the columns that are left

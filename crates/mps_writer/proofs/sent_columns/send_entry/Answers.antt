@@ -1,6 +1,4 @@
-use Rattle.std.proofs.Common.{◌++◌, arith}
-use Rattle.io_edges.specs.Outputs.{output}
-use Rattle.mps_writer.specs.MpsText.{entry_line}
+use Rattle.mps_writer.proofs.Common.{◌++◌, arith, output, entry_line}
 use Rattle.mps_writer.proofs.TakenLaws.{cuts-none}
 use Rattle.mps_writer.proofs.sent_columns.send_entry.Goals as goal
 

@@ -1,6 +1,5 @@
 -- The bytes so far.
-use Rattle.std.proofs.Common.{◌≡◌, ◌++◌, take}
-use Rattle.page_charts.specs.Escaping.{escaped}
+use Rattle.page_charts.proofs.Common.{◌≡◌, ◌++◌, take, escaped}
 use Rattle.page_charts.proofs.escaping.push_escaped.Given as goal
 
 abbrev pub invariant-loop-byte : goal.invariant-loop-byte

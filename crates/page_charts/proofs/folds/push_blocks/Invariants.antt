@@ -1,7 +1,5 @@
 -- The blocks so far.
-use Rattle.std.proofs.Common.{◌≡◌, ◌++◌}
-use Rattle.std.specs.List.{flat_map, range_with_len}
-use Rattle.page_charts.specs.Folds.{block_text}
+use Rattle.page_charts.proofs.Common.{◌≡◌, ◌++◌, flat_map, range_with_len, block_text}
 use Rattle.page_charts.proofs.folds.push_blocks.Given as goal
 
 abbrev pub invariant-loop-block : goal.invariant-loop-block

@@ -1,7 +1,5 @@
 -- The cells so far.
-use Rattle.std.proofs.Common.{◌≡◌, ◌++◌, take}
-use Rattle.std.specs.List.{flat_map}
-use Rattle.page_charts.specs.Folds.{cell}
+use Rattle.page_charts.proofs.Common.{◌≡◌, ◌++◌, take, flat_map, cell}
 use Rattle.page_charts.proofs.folds.push_cells.Given as goal
 
 abbrev pub invariant-loop-value : goal.invariant-loop-value

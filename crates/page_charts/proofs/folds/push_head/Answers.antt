@@ -1,6 +1,5 @@
 -- Piece by piece.
-use Rattle.std.proofs.Common.{append_assoc}
-use Rattle.page_charts.specs.Folds.{head_text}
+use Rattle.page_charts.proofs.Common.{append_assoc, head_text}
 use Rattle.page_charts.proofs.folds.push_head.Goals as goal
 
 pub returns : goal.returns

@@ -1,7 +1,5 @@
 -- The heads so far.
-use Rattle.std.proofs.Common.{◌≡◌, ◌++◌, take}
-use Rattle.std.specs.List.{flat_map}
-use Rattle.page_charts.specs.Folds.{head_text}
+use Rattle.page_charts.proofs.Common.{◌≡◌, ◌++◌, take, flat_map, head_text}
 use Rattle.page_charts.proofs.folds.push_head_cells.Given as goal
 
 abbrev pub invariant-loop-heading : goal.invariant-loop-heading

@@ -1,7 +1,5 @@
 -- The rows so far.
-use Rattle.std.proofs.Common.{◌≡◌, ◌++◌, take}
-use Rattle.std.specs.List.{flat_map}
-use Rattle.page_charts.specs.Folds.{row_text}
+use Rattle.page_charts.proofs.Common.{◌≡◌, ◌++◌, take, flat_map, row_text}
 use Rattle.page_charts.proofs.folds.push_rows.Given as goal
 
 abbrev pub invariant-loop-row : goal.invariant-loop-row

@@ -1,6 +1,5 @@
 -- No step so far is enough.
-use Rattle.std.proofs.Common.{ℕ, ◌<◌}
-use Rattle.page_charts.specs.Frames.{step_at, steps_over}
+use Rattle.page_charts.proofs.Common.{ℕ, ◌<◌, step_at, steps_over}
 use Rattle.page_charts.proofs.framing.frame_over.Given as goal
 
 abbrev pub invariant-loop-place : goal.invariant-loop-place

@@ -1,6 +1,5 @@
 -- A power of ten up to the 24th.
-use Rattle.std.proofs.Common.{ℕ, ◌^◌, ◌<◌, ◌≤◌, arith}
-use Rattle.std.proofs.Math.Nat.{one-le-pow, pow-le-pow_right}
+use Rattle.page_charts.proofs.Common.{ℕ, ◌^◌, ◌<◌, ◌≤◌, arith, one-le-pow, pow-le-pow_right}
 use Rattle.page_charts.proofs.framing.ten_to.Goals as goal
 
 most : (n : ℕ) → n ≤ 24 → 10 ^ n ≤ 10 ^ 24

@@ -1,7 +1,5 @@
 -- Rounding up reaches over.
-use Rattle.std.proofs.Common.{ℕ, ◌*◌, ◌≤◌, sym, subst}
-use Rattle.page_charts.specs.declared.frames.Frame.{Frame}
-use Rattle.page_charts.specs.Frames.{IsFrameFor}
+use Rattle.page_charts.proofs.Common.{ℕ, ◌*◌, ◌≤◌, sym, subst, Frame, IsFrameFor}
 use Rattle.page_charts.proofs.HeightLaws.{reaches}
 use Rattle.page_charts.proofs.laws.frame_laws.Goals as goal
 

@@ -1,8 +1,5 @@
 -- By the order of what is below the top.
-use Rattle.std.proofs.Common.{◌+◌, ◌*◌, ◌/◌, ◌≤◌, ℤ, ◌≤ℤ◌, arith}
-use Rattle.std.proofs.Math.Nat.{div-le_of_le-mul, mul-pos}
-use Rattle.page_charts.specs.declared.frames.Frame.{Frame}
-use Rattle.page_charts.specs.Frames.{below_top, y_of}
+use Rattle.page_charts.proofs.Common.{◌+◌, ◌*◌, ◌/◌, ◌≤◌, ℤ, ◌≤ℤ◌, arith, div-le_of_le-mul, mul-pos, Frame, below_top, y_of}
 use Rattle.page_charts.proofs.HeightLaws.{below_all, below_falls, quotient_rises}
 use Rattle.page_charts.proofs.laws.height_laws.Goals as goal
 

@@ -1,7 +1,5 @@
 -- Digit by digit.
-use Rattle.std.proofs.Common.{◌≡◌, ℕ, ◌+◌, ◌-◌, ◌<◌, List, [], ◌∷◌, ◌++◌, length, get_or, drop, sym, ap, ◌∙◌, append_assoc, length-drop, arith}
-use Rattle.std.proofs.lemmas.List.{append-nil, drop_more, drop_all}
-use Rattle.page_charts.specs.Numbers.{blank_before, in_threes}
+use Rattle.page_charts.proofs.Common.{◌≡◌, ℕ, ◌+◌, ◌-◌, ◌<◌, List, [], ◌∷◌, ◌++◌, length, get_or, drop, sym, ap, ◌∙◌, append_assoc, length-drop, arith, append-nil, drop_more, drop_all, blank_before, in_threes}
 use Rattle.page_charts.proofs.numbers.push_in_threes.Goals as goal
 
 next : (ds : List ℕ) (i : ℕ) (out all : List ℕ) → i < length ds → out ++ in_threes (drop i ds) ≡ all

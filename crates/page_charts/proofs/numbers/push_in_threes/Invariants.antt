@@ -1,6 +1,5 @@
 -- What is written and what the digits left write are the whole.
-use Rattle.std.proofs.Common.{◌≡◌, ◌++◌, drop}
-use Rattle.page_charts.specs.Numbers.{in_threes}
+use Rattle.page_charts.proofs.Common.{◌≡◌, ◌++◌, drop, in_threes}
 use Rattle.page_charts.proofs.numbers.push_in_threes.Given as goal
 
 abbrev pub invariant-loop-place : goal.invariant-loop-place

@@ -1,6 +1,5 @@
 -- Piece by piece.
-use Rattle.std.proofs.Common.{append_assoc}
-use Rattle.page_charts.specs.Ticks.{tick_line}
+use Rattle.page_charts.proofs.Common.{append_assoc, tick_line}
 use Rattle.page_charts.proofs.ticks.push_tick_line.Goals as goal
 
 pub returns : goal.returns

@@ -1,6 +1,5 @@
 -- No fewer thousands are enough.
-use Rattle.std.proofs.Common.{ℕ, ◌*◌, ◌^◌, ◌<◌, ◌≤◌}
-use Rattle.page_charts.specs.Ticks.{greatest_tick}
+use Rattle.page_charts.proofs.Common.{ℕ, ◌*◌, ◌^◌, ◌<◌, ◌≤◌, greatest_tick}
 use Rattle.page_charts.proofs.ticks.scale_for.Given as goal
 
 abbrev pub invariant-loop-thousands : goal.invariant-loop-thousands

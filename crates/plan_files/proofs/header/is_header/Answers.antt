@@ -1,8 +1,5 @@
 -- Ten fields that are each that of the header.
-use Rattle.std.proofs.Common.{◌≡◌, ℕ, ◌<◌, List, [], length, get_or, refl, sym, ◌∙◌, arith}
-use Rattle.std.proofs.lemmas.List.{get_or_default, same_lists}
-use Rattle.csv.specs.Records.{fields_of}
-use Rattle.plan_files.specs.Records.{header}
+use Rattle.plan_files.proofs.Common.{◌≡◌, ℕ, ◌<◌, List, [], length, get_or, refl, sym, ◌∙◌, arith, get_or_default, same_lists, fields_of, header}
 use Rattle.plan_files.proofs.header.is_header.Goals as goal
 
 pub returns : goal.returns

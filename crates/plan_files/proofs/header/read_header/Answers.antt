@@ -1,10 +1,5 @@
 -- The first record is the header, or another one, or there is none.
-use Rattle.std.proofs.Common.{◌≡◌, true, false, ◌∷◌, refl, sym, ap, ◌∙◌, subst}
-use Rattle.csv.specs.Records.{fields_of}
-use Rattle.plan_files.specs.Answers.{HasNoHeader}
-use Rattle.plan_files.specs.Files.{Fields}
-use Rattle.plan_files.specs.Reading.{IsNext}
-use Rattle.plan_files.specs.Records.{header}
+use Rattle.plan_files.proofs.Common.{◌≡◌, true, false, ◌∷◌, refl, sym, ap, ◌∙◌, subst, fields_of, HasNoHeader, Fields, IsNext, header}
 use Rattle.plan_files.proofs.header.read_header.Goals.{else-branch-via-then-branch+else-is_header, else-branch-via-else-branch}
 use Rattle.plan_files.proofs.header.read_header.Goals as goal
 

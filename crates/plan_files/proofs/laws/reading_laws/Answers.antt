@@ -1,19 +1,5 @@
 -- The records that were written are right, and give the values.
-use Rattle.std.proofs.Common.{◌≡◌, List, Bool, true, [], ◌∷◌, map, filter, refl, sym, subst, ap, ◌∙◌}
-use Rattle.std.specs.Prelude.{Contains, not}
-use Rattle.std.specs.List.{AllByRecursion}
-use Rattle.exact_num.specs.Rational.{Rational}
-use Rattle.exact_num.specs.declared.fraction.Frac.{Frac}
-use Rattle.row_core.specs.declared.RowName.{RowName}
-use Rattle.row_core.specs.declared.Var.{Var}
-use Rattle.row_core.specs.Numbers.{ascends, is_zero}
-use Rattle.row_core.specs.Order.{row_name_cmp, var_cmp}
-use Rattle.row_core.specs.Plans.{valued}
-use Rattle.row_core.proofs.Orders.{row_name_cmp_total, var_cmp_total}
-use Rattle.plan_files.specs.Answers.{AreGiven, row_names, variable_names}
-use Rattle.plan_files.specs.Files.{AreRight, Fields, is_named_in}
-use Rattle.plan_files.specs.Listed.{IsListedRow, IsListedVariable}
-use Rattle.plan_files.specs.Records.{nonzero, row_fields, row_record, variable_fields, variable_record}
+use Rattle.plan_files.proofs.Common.{◌≡◌, List, Bool, true, [], ◌∷◌, map, filter, refl, sym, subst, ap, ◌∙◌, Contains, not, AllByRecursion, Rational, Frac, RowName, Var, ascends, is_zero, row_name_cmp, var_cmp, valued, row_name_cmp_total, var_cmp_total, AreGiven, row_names, variable_names, AreRight, Fields, is_named_in, IsListedRow, IsListedVariable, nonzero, row_fields, row_record, variable_fields, variable_record}
 use Rattle.plan_files.proofs.RoundTrip.{Apart, all_of, apart, as_written, contained, given, keys_kept, own, right_kept, written_records}
 use Rattle.plan_files.proofs.ToldLaws.{keys_valued}
 use Rattle.plan_files.proofs.UniqueLaws.{same_row, same_variable}

@@ -1,10 +1,5 @@
 -- The records after the header are the same, and what they give is.
-use Rattle.std.proofs.Common.{◌≡◌, inl, inr, sym, subst, ap, ◌∙◌, None, Some, filter, List}
-use Rattle.row_core.specs.declared.Var.{Var}
-use Rattle.plan_files.specs.Answers.{AreGiven, IsPlanFault, first_missing, row_names, variable_names}
-use Rattle.plan_files.specs.Files.{Fields, is_named_in}
-use Rattle.plan_files.specs.Records.{row_fields, variable_fields}
-use Rattle.plan_files.specs.declared.faults.PlanFault.TheVariants.{Missing}
+use Rattle.plan_files.proofs.Common.{◌≡◌, inl, inr, sym, subst, ap, ◌∙◌, None, Some, filter, List, Var, AreGiven, IsPlanFault, first_missing, row_names, variable_names, Fields, is_named_in, row_fields, variable_fields, Missing}
 use Rattle.plan_files.proofs.KeyLaws.{or_key}
 use Rattle.plan_files.proofs.TellingLaws.{in_form_not_broken, none_missing, one_first, same_rows, same_told}
 use Rattle.plan_files.proofs.laws.telling_laws.Goals as goal

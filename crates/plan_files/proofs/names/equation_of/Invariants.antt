@@ -1,6 +1,5 @@
 -- No equation so far has the word.
-use Rattle.std.proofs.Common.{◌≡◌, ℕ, ◌<◌}
-use Rattle.row_core.specs.Equations.{IsEquation, word_of_equation}
+use Rattle.plan_files.proofs.Common.{◌≡◌, ℕ, ◌<◌, IsEquation, word_of_equation}
 use Rattle.plan_files.proofs.names.equation_of.Given as goal
 
 abbrev pub invariant-loop-eq : goal.invariant-loop-eq

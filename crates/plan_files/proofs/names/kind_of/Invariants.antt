@@ -1,6 +1,5 @@
 -- No kind so far has the word.
-use Rattle.std.proofs.Common.{◌≡◌, ℕ, ◌<◌}
-use Rattle.row_core.specs.Kinds.{IsKind, word_of_kind}
+use Rattle.plan_files.proofs.Common.{◌≡◌, ℕ, ◌<◌, IsKind, word_of_kind}
 use Rattle.plan_files.proofs.names.kind_of.Given as goal
 
 abbrev pub invariant-loop-kind : goal.invariant-loop-kind

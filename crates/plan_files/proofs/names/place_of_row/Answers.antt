@@ -1,14 +1,5 @@
 -- The search ends at the row, or none of the list is named.
-use Rattle.std.proofs.Common.{sym, subst}
-use Rattle.csv.specs.Records.{fields_of}
-use Rattle.row_core.specs.declared.RowName.{RowName}
-use Rattle.row_core.specs.Order.{row_name_cmp}
-use Rattle.row_core.proofs.Orders.{row_name_cmp_exact, row_name_cmp_total}
-use Rattle.plan_files.specs.Files.{name_of}
-use Rattle.plan_files.specs.Listed.{IsListedRow}
-use Rattle.plan_files.specs.Reading.{IsEntry}
-use Rattle.plan_files.specs.Answers.{row_names}
-use Rattle.plan_files.specs.Records.{row_fields}
+use Rattle.plan_files.proofs.Common.{sym, subst, fields_of, RowName, row_name_cmp, row_name_cmp_exact, row_name_cmp_total, name_of, IsListedRow, IsEntry, row_names, row_fields}
 use Rattle.plan_files.proofs.KeyLaws.{entry_of, no_entry_of}
 use Rattle.plan_files.proofs.names.place_of_row.Goals as goal
 

@@ -1,9 +1,5 @@
 -- The word is the first field.
-use Rattle.std.proofs.Common.{◌∷◌, subst}
-use Rattle.csv.specs.Records.{fields_of}
-use Rattle.plan_files.specs.Answers.{variable_names}
-use Rattle.plan_files.specs.Files.{subscripts_in}
-use Rattle.plan_files.specs.Reading.{IsEntry}
+use Rattle.plan_files.proofs.Common.{◌∷◌, subst, fields_of, variable_names, subscripts_in, IsEntry}
 use Rattle.plan_files.proofs.names.place_of_variable.Goals as goal
 
 pub returns : goal.returns

@@ -1,14 +1,5 @@
 -- The search ends at the variable, or none of the list is named.
-use Rattle.std.proofs.Common.{◌∷◌, sym, subst}
-use Rattle.csv.specs.Records.{fields_of}
-use Rattle.row_core.specs.declared.Var.{Var}
-use Rattle.row_core.specs.Order.{var_cmp}
-use Rattle.row_core.proofs.Orders.{var_cmp_exact, var_cmp_total}
-use Rattle.plan_files.specs.Files.{subscripts_in}
-use Rattle.plan_files.specs.Listed.{IsListedVariable}
-use Rattle.plan_files.specs.Reading.{IsEntry}
-use Rattle.plan_files.specs.Answers.{variable_names}
-use Rattle.plan_files.specs.Records.{variable_fields}
+use Rattle.plan_files.proofs.Common.{◌∷◌, sym, subst, fields_of, Var, var_cmp, var_cmp_exact, var_cmp_total, subscripts_in, IsListedVariable, IsEntry, variable_names, variable_fields}
 use Rattle.plan_files.proofs.KeyLaws.{entry_of, no_entry_of}
 use Rattle.plan_files.proofs.names.place_of_word.Goals as goal
 

@@ -1,10 +1,5 @@
 -- A row of the sets that has the record's fields has the word and the subscripts that they name.
-use Rattle.std.proofs.Common.{◌≡◌, None, Some, sym, ap, ap₂, ◌∙◌}
-use Rattle.csv.specs.Records.{fields_of}
-use Rattle.row_core.specs.declared.Index.{Index}
-use Rattle.row_core.specs.Equations.{word_of_equation}
-use Rattle.plan_files.specs.Records.{subscript_fields}
-use Rattle.row_core.specs.Equations.{equation_has}
+use Rattle.plan_files.proofs.Common.{◌≡◌, None, Some, sym, ap, ap₂, ◌∙◌, fields_of, Index, word_of_equation, subscript_fields, equation_has}
 use Rattle.plan_files.proofs.KeyLaws.{or_key, or_number}
 use Rattle.plan_files.proofs.NamedLaws.{row_index, word_field}
 use Rattle.plan_files.proofs.names.row_named.Goals as goal

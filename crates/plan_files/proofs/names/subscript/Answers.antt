@@ -1,6 +1,5 @@
 -- No name stands twice in a set, so the position of a member is the only one of its name.
-use Rattle.std.proofs.Common.{◌∙◌}
-use Rattle.model_sets.specs.Members.{members}
+use Rattle.plan_files.proofs.Common.{◌∙◌, members}
 use Rattle.plan_files.proofs.SubscriptLaws.{subscript_alone, subscript_there}
 use Rattle.plan_files.proofs.names.subscript.Goals as goal
 

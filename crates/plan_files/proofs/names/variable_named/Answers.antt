@@ -1,8 +1,5 @@
 -- A variable of the sets that has the record's fields has the word and the subscripts that they name.
-use Rattle.std.proofs.Common.{◌≡◌, [], None, Some, get_or, ap, ap₂}
-use Rattle.csv.specs.Records.{fields_of}
-use Rattle.row_core.specs.declared.Index.{Index}
-use Rattle.row_core.specs.Kinds.{word_of_kind}
+use Rattle.plan_files.proofs.Common.{◌≡◌, [], None, Some, get_or, ap, ap₂, fields_of, Index, word_of_kind}
 use Rattle.plan_files.proofs.KeyLaws.{or_key, or_number}
 use Rattle.plan_files.proofs.NamedLaws.{variable_index}
 use Rattle.plan_files.proofs.names.variable_named.Goals as goal

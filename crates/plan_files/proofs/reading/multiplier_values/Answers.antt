@@ -1,8 +1,5 @@
 -- A fault is that of these names.
-use Rattle.std.proofs.Common.{sym, rules}
-use Rattle.std.proofs.lemmas.List.{length-map}
-use Rattle.plan_files.specs.Answers.{row_names}
-use Rattle.plan_files.specs.Records.{row_fields}
+use Rattle.plan_files.proofs.Common.{sym, rules, length-map, row_names, row_fields}
 use Rattle.plan_files.proofs.reading.multiplier_values.Goals as goal
 
 pub returns-clause-fault : goal.returns-clause-fault

@@ -1,6 +1,5 @@
 -- The names of the rows so far.
-use Rattle.std.proofs.Common.{◌≡◌, ◌++◌, drop, map}
-use Rattle.plan_files.specs.Listed.{name_of_row}
+use Rattle.plan_files.proofs.Common.{◌≡◌, ◌++◌, drop, map, name_of_row}
 use Rattle.plan_files.proofs.reading.names_of.Given as goal
 
 abbrev pub invariant-loop-row : goal.invariant-loop-row

@@ -1,16 +1,5 @@
 -- The multipliers that were read, in the order of the rows.
-use Rattle.std.proofs.Common.{◌≡◌, List, Option, map, sym, subst, ap, ap₂, ◌∙◌}
-use Rattle.exact_num.specs.declared.fraction.Frac.{Frac}
-use Rattle.row_core.specs.Numbers.{ascends, keys_of}
-use Rattle.row_core.specs.Order.{row_name_cmp}
-use Rattle.row_core.specs.Plans.{valued}
-use Rattle.row_core.specs.declared.RowName.{RowName}
-use Rattle.row_core.proofs.Orders.{row_name_cmp_total}
-use Rattle.plan_files.specs.Answers.{AreGiven, row_names}
-use Rattle.plan_files.specs.Files.{is_named_in, records_of}
-use Rattle.plan_files.specs.Listed.{name_of_row}
-use Rattle.plan_files.specs.Reading.{AreRead, with_values}
-use Rattle.plan_files.specs.Records.{row_fields}
+use Rattle.plan_files.proofs.Common.{◌≡◌, List, Option, map, sym, subst, ap, ap₂, ◌∙◌, Frac, ascends, keys_of, row_name_cmp, valued, RowName, row_name_cmp_total, AreGiven, row_names, is_named_in, records_of, name_of_row, AreRead, with_values, row_fields}
 use Rattle.plan_files.proofs.ToldLaws.{ascends_filter, given_told, keys_told, keys_valued}
 use Rattle.plan_files.proofs.reading.read_multipliers.Goals as goal
 

@@ -1,14 +1,5 @@
 -- The values that were read, in the order of the variables.
-use Rattle.std.proofs.Common.{◌≡◌, List, Option, None, length, map, inr, refl, sym, subst, ap, ◌∙◌}
-use Rattle.std.proofs.lemmas.List.{length-map}
-use Rattle.exact_num.specs.declared.fraction.Frac.{Frac}
-use Rattle.row_core.specs.Numbers.{ascends, keys_of}
-use Rattle.row_core.specs.Order.{var_cmp}
-use Rattle.row_core.specs.Plans.{valued}
-use Rattle.row_core.specs.declared.Var.{Var}
-use Rattle.plan_files.specs.Answers.{AreGiven}
-use Rattle.plan_files.specs.Records.{variable_fields}
-use Rattle.plan_files.specs.Reading.{first_without, with_values}
+use Rattle.plan_files.proofs.Common.{◌≡◌, List, Option, None, length, map, inr, refl, sym, subst, ap, ◌∙◌, length-map, Frac, ascends, keys_of, var_cmp, valued, Var, AreGiven, variable_fields, first_without, with_values}
 use Rattle.plan_files.proofs.ToldLaws.{all_keys, first_told, given_told, keys_valued}
 use Rattle.plan_files.proofs.reading.read_plan.Goals as goal
 

@@ -1,13 +1,8 @@
 -- Record by record.
-use Rattle.std.proofs.Common.{◌≡◌, List, Option, length, ◌+◌, sym, subst, ap, ◌∙◌, true, false, ◌<◌, refl, arith}
-use Rattle.std.proofs.lemmas.List.{length-replicate}
+use Rattle.plan_files.proofs.Common.{◌≡◌, List, Option, length, ◌+◌, sym, subst, ap, ◌∙◌, true, false, ◌<◌, refl, arith, length-replicate, fields_of, Frac, Fields, name_of, records_of, AreTaken, IsEntry, IsNext}
 use Rattle.std.proofs.lemmas.Result.{err_from_is_err_and}
 use Rattle.std.proofs.iter.Next.{says_at}
 use Rattle.std.specs.Prelude.{IfSome}
-use Rattle.csv.specs.Records.{fields_of}
-use Rattle.exact_num.specs.declared.fraction.Frac.{Frac}
-use Rattle.plan_files.specs.Files.{Fields, name_of, records_of}
-use Rattle.plan_files.specs.Reading.{AreTaken, IsEntry, IsNext}
 use Rattle.plan_files.proofs.SoFarLaws.{IsSoFar, all_read, begun, broken_at, given_back, no_header, one_more}
 use Rattle.plan_files.proofs.reading.read_values.Goals as goal
 

@@ -1,8 +1,6 @@
 -- The records so far, whatever the names are whose places are found.
-use Rattle.std.proofs.Common.{◌≡◌, List, length}
+use Rattle.plan_files.proofs.Common.{◌≡◌, List, length, Fields, records_of, FindsPlaces}
 use Rattle.std.specs.Fn.{FnReturnsAt}
-use Rattle.plan_files.specs.Files.{Fields, records_of}
-use Rattle.plan_files.specs.Reading.{FindsPlaces}
 use Rattle.plan_files.proofs.SoFarLaws.{IsSoFar}
 use Rattle.plan_files.proofs.reading.read_values.Given as goal
 

@@ -1,6 +1,5 @@
 -- The first key without a value is the first of those that are left.
-use Rattle.std.proofs.Common.{◌≡◌, drop}
-use Rattle.plan_files.specs.Reading.{first_without}
+use Rattle.plan_files.proofs.Common.{◌≡◌, drop, first_without}
 use Rattle.plan_files.proofs.values.first_without.Given as goal
 
 abbrev pub invariant-loop-i : goal.invariant-loop-i

@@ -1,10 +1,5 @@
 -- The record has no known name, or is right and gives its value.
-use Rattle.std.proofs.Common.{◌≡◌, ℕ, ◌<◌, Some, None, length, get_or, sym, subst, ◌∙◌, arith}
-use Rattle.csv.specs.Records.{fields_of}
-use Rattle.exact_num.specs.Value.{value_of}
-use Rattle.exact_num.specs.declared.fraction.Frac.{Frac}
-use Rattle.plan_files.specs.Files.{name_of, field, HasValue}
-use Rattle.plan_files.specs.Reading.{IsEntry}
+use Rattle.plan_files.proofs.Common.{◌≡◌, ℕ, ◌<◌, Some, None, length, get_or, sym, subst, ◌∙◌, arith, fields_of, value_of, Frac, name_of, field, HasValue, IsEntry}
 use Rattle.plan_files.proofs.TakenLaws.{no_entry, nothing_there, right_more, taken_more}
 use Rattle.plan_files.proofs.values.take.Goals as goal
 

@@ -1,6 +1,5 @@
 -- What was taken and what the keys and values that are left give are the whole.
-use Rattle.std.proofs.Common.{◌≡◌, ◌++◌, drop}
-use Rattle.plan_files.specs.Reading.{with_values}
+use Rattle.plan_files.proofs.Common.{◌≡◌, ◌++◌, drop, with_values}
 use Rattle.plan_files.proofs.values.with_values.Given as goal
 
 abbrev pub invariant-loop-i : goal.invariant-loop-i

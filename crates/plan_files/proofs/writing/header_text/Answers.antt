@@ -1,7 +1,5 @@
 -- All fields of the header.
-use Rattle.std.proofs.Common.{◌≡◌, arith}
-use Rattle.csv.specs.Records.{fields_of}
-use Rattle.plan_files.specs.Records.{header}
+use Rattle.plan_files.proofs.Common.{◌≡◌, arith, fields_of, header}
 use Rattle.plan_files.proofs.writing.header_text.Goals as goal
 
 pub returns : goal.returns

@@ -1,6 +1,5 @@
 -- The fields so far.
-use Rattle.std.proofs.Common.{◌≡◌, [], map, take}
-use Rattle.csv.specs.Records.{fields_of, partial_of}
+use Rattle.plan_files.proofs.Common.{◌≡◌, [], map, take, fields_of, partial_of}
 use Rattle.plan_files.proofs.writing.header_text.Given as goal
 
 abbrev pub invariant-loop-name : goal.invariant-loop-name

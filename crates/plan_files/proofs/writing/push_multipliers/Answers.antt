@@ -1,18 +1,5 @@
 -- Record by record, of the multipliers that aren't 0.
-use Rattle.std.proofs.Common.{ℕ, List, Bool, ◌++◌, ◌+◌, drop, map, sym, subst, ap, ◌∙◌}
-use Rattle.std.specs.Prelude.{not}
-use Rattle.std.specs.List.{AllByRecursion}
-use Rattle.csv.specs.Writing.{default_writer, row_text}
-use Rattle.exact_num.specs.Rational.{Rational}
-use Rattle.exact_num.specs.Value.{value_of}
-use Rattle.exact_num.specs.declared.fraction.Frac.{Frac}
-use Rattle.row_core.specs.declared.RowName.{RowName}
-use Rattle.row_core.specs.Equations.{IsEquation}
-use Rattle.row_core.specs.NameTexts.{RowNameIsWithin}
-use Rattle.row_core.specs.Numbers.{is_zero}
-use Rattle.row_core.specs.Plans.{valued}
-use Rattle.plan_files.specs.Records.{nonzero, row_record}
-use Rattle.plan_files.specs.Texts.{records_text}
+use Rattle.plan_files.proofs.Common.{ℕ, List, Bool, ◌++◌, ◌+◌, drop, map, sym, subst, ap, ◌∙◌, not, AllByRecursion, default_writer, row_text, Rational, value_of, Frac, RowName, IsEquation, RowNameIsWithin, is_zero, valued, nonzero, row_record, records_text}
 use Rattle.plan_files.proofs.TextLaws.{passing_next, passing_skipped, valued_at}
 use Rattle.plan_files.proofs.writing.push_multipliers.Goals.{then-not-is_zero+in_ok-push_row, else-not-is_zero}
 use Rattle.plan_files.proofs.writing.push_multipliers.Goals as goal

@@ -1,8 +1,5 @@
 -- What is written and the records of the rows that are left are the whole.
-use Rattle.std.proofs.Common.{◌≡◌, ◌++◌, drop, map}
-use Rattle.row_core.specs.Plans.{valued}
-use Rattle.plan_files.specs.Records.{nonzero, row_record}
-use Rattle.plan_files.specs.Texts.{records_text}
+use Rattle.plan_files.proofs.Common.{◌≡◌, ◌++◌, drop, map, valued, nonzero, row_record, records_text}
 use Rattle.plan_files.proofs.writing.push_multipliers.Given as goal
 
 abbrev pub invariant-loop-name : goal.invariant-loop-name

@@ -1,8 +1,5 @@
 -- What is written and the records of the variables that are left are the whole.
-use Rattle.std.proofs.Common.{◌≡◌, ◌++◌, drop, map}
-use Rattle.row_core.specs.Plans.{valued}
-use Rattle.plan_files.specs.Records.{variable_record}
-use Rattle.plan_files.specs.Texts.{records_text}
+use Rattle.plan_files.proofs.Common.{◌≡◌, ◌++◌, drop, map, valued, variable_record, records_text}
 use Rattle.plan_files.proofs.writing.push_plan.Given as goal
 
 abbrev pub invariant-loop-variable : goal.invariant-loop-variable

@@ -1,9 +1,5 @@
 -- Place by place.
-use Rattle.std.proofs.Common.{◌≡◌, ◌<◌, ◌++◌, ◌∷◌, [], ℕ, List, filter, length, get_or, sym, ap, ◌∙◌, subst, arith}
-use Rattle.std.specs.List.{AllByRecursion}
-use Rattle.std.proofs.lemmas.List.{take_all}
-use Rattle.std.proofs.lemmas.List.Elements.{filter_more}
-use Rattle.row_core.specs.Kinds.{kind_has}
+use Rattle.plan_tables.proofs.Common.{◌≡◌, ◌<◌, ◌++◌, ◌∷◌, [], ℕ, List, filter, length, get_or, sym, ap, ◌∙◌, subst, arith, AllByRecursion, take_all, filter_more, kind_has}
 use Rattle.plan_tables.proofs.ColumnLaws.{below_at, order_below, order_length}
 use Rattle.plan_tables.proofs.columns.columns_of.Goals as goal
 

@@ -1,6 +1,5 @@
 -- The places so far that the kind has.
-use Rattle.std.proofs.Common.{◌≡◌, filter, take}
-use Rattle.row_core.specs.Kinds.{kind_has}
+use Rattle.plan_tables.proofs.Common.{◌≡◌, filter, take, kind_has}
 use Rattle.plan_tables.proofs.columns.columns_of.Given as goal
 
 abbrev pub invariant-loop-place : goal.invariant-loop-place

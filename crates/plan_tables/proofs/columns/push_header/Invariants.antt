@@ -1,7 +1,5 @@
 -- The heads so far.
-use Rattle.std.proofs.Common.{◌≡◌, [], map, take}
-use Rattle.csv.specs.Records.{fields_of, partial_of}
-use Rattle.plan_tables.specs.Columns.{column_word}
+use Rattle.plan_tables.proofs.Common.{◌≡◌, [], map, take, fields_of, partial_of, column_word}
 use Rattle.plan_tables.proofs.columns.push_header.Given as goal
 
 abbrev pub invariant-loop-place : goal.invariant-loop-place

@@ -1,6 +1,5 @@
 -- Kind by kind.
-use Rattle.std.proofs.Common.{sym, ◌∙◌, arith}
-use Rattle.plan_tables.specs.TableNames.{has_name}
+use Rattle.plan_tables.proofs.Common.{sym, ◌∙◌, arith, has_name}
 use Rattle.plan_tables.proofs.KindLaws.{find_next}
 use Rattle.plan_tables.proofs.names.kind_named.Goals as goal
 

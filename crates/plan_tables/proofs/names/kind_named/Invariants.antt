@@ -1,7 +1,5 @@
 -- The kind of the name is one of those that are left.
-use Rattle.std.proofs.Common.{◌≡◌}
-use Rattle.std.specs.List.{find}
-use Rattle.plan_tables.specs.TableNames.{has_name, kind_named}
+use Rattle.plan_tables.proofs.Common.{◌≡◌, find, has_name, kind_named}
 use Rattle.plan_tables.proofs.KindLaws.{kinds_from}
 use Rattle.plan_tables.proofs.names.kind_named.Given as goal
 

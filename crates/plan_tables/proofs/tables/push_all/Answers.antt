@@ -1,6 +1,5 @@
 -- Kind by kind.
-use Rattle.std.proofs.Common.{arith}
-use Rattle.plan_tables.specs.ValueTables.{named_text}
+use Rattle.plan_tables.proofs.Common.{arith, named_text}
 use Rattle.plan_tables.proofs.KindLaws.{text_next}
 use Rattle.plan_tables.proofs.tables.push_all.Goals as goal
 

@@ -1,8 +1,5 @@
 -- What is written and the tables of the kinds that are left are the whole.
-use Rattle.std.proofs.Common.{◌≡◌, ◌++◌}
-use Rattle.std.specs.List.{flat_map}
-use Rattle.plan_tables.specs.TableNames.{all_kinds}
-use Rattle.plan_tables.specs.ValueTables.{named_text}
+use Rattle.plan_tables.proofs.Common.{◌≡◌, ◌++◌, flat_map, all_kinds, named_text}
 use Rattle.plan_tables.proofs.KindLaws.{kinds_from}
 use Rattle.plan_tables.proofs.tables.push_all.Given as goal
 

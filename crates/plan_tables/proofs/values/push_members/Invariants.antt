@@ -1,7 +1,5 @@
 -- The members so far.
-use Rattle.std.proofs.Common.{◌≡◌, ◌++◌, [], map, take}
-use Rattle.csv.specs.Records.{fields_of, partial_of}
-use Rattle.row_core.specs.NameTexts.{member}
+use Rattle.plan_tables.proofs.Common.{◌≡◌, ◌++◌, [], map, take, fields_of, partial_of, member}
 use Rattle.plan_tables.proofs.values.push_members.Given as goal
 
 abbrev pub invariant-loop-place : goal.invariant-loop-place

@@ -1,8 +1,5 @@
 -- Each subscript of the columns is one that the kind has.
-use Rattle.std.proofs.Common.{ℕ, List, sym, subst}
-use Rattle.std.specs.List.{AllByRecursion}
-use Rattle.row_core.specs.Kinds.{kind_at}
-use Rattle.row_core.specs.NameTexts.{IsWithin}
+use Rattle.plan_tables.proofs.Common.{ℕ, List, sym, subst, AllByRecursion, kind_at, IsWithin}
 use Rattle.plan_tables.proofs.ColumnLaws.{columns_within}
 use Rattle.plan_tables.proofs.values.push_value.Goals as goal
 

@@ -1,10 +1,5 @@
 -- Value by value.
-use Rattle.std.proofs.Common.{ℕ, ◌+◌, List, ◌++◌, ◌∷◌, [], drop, sym, ap, ◌∙◌, subst}
-use Rattle.exact_num.specs.Rational.{Rational}
-use Rattle.exact_num.specs.declared.fraction.Frac.{Frac}
-use Rattle.row_core.specs.declared.Var.{Var}
-use Rattle.row_core.specs.NameTexts.{VariableIsWithin}
-use Rattle.row_core.specs.Plans.{valued}
+use Rattle.plan_tables.proofs.Common.{ℕ, ◌+◌, List, ◌++◌, ◌∷◌, [], drop, sym, ap, ◌∙◌, subst, Rational, Frac, Var, VariableIsWithin, valued}
 use Rattle.plan_tables.proofs.TextLaws.{valued_at, values_next, values_text}
 use Rattle.plan_tables.proofs.values.push_values.Goals as goal
 

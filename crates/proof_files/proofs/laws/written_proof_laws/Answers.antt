@@ -1,16 +1,5 @@
 -- The records that were written are right, and give the values.
-use Rattle.std.proofs.Common.{◌≡◌, List, [], ◌∷◌, ◌++◌, map, sym, subst, ap, ◌∙◌}
-use Rattle.std.proofs.lemmas.List.{append-nil}
-use Rattle.row_core.specs.Numbers.{keys_of}
-use Rattle.row_core.specs.Order.{row_name_cmp, var_cmp}
-use Rattle.row_core.specs.Plans.{valued}
-use Rattle.plan_files.specs.Answers.{IsInForm}
-use Rattle.plan_files.specs.Files.{Fields, records_of}
-use Rattle.plan_files.specs.Records.{header, nonzero, row_fields, row_record, variable_record}
-use Rattle.plan_files.specs.Texts.{records_text}
-use Rattle.plan_files.proofs.ToldLaws.{keys_valued}
-use Rattle.proof_files.specs.ProofRecords.{proof_names}
-use Rattle.proof_files.specs.Proofs.{AreTold}
+use Rattle.proof_files.proofs.Common.{◌≡◌, List, [], ◌∷◌, ◌++◌, map, sym, subst, ap, ◌∙◌, append-nil, keys_of, row_name_cmp, var_cmp, valued, IsInForm, Fields, records_of, header, nonzero, row_fields, row_record, variable_record, records_text, keys_valued, proof_names, AreTold}
 use Rattle.proof_files.proofs.WrittenProofs.{all_of_them, direction_given, direction_named, none_of, nonzero_entries, nonzero_valued, plan_given, plan_named, rows, rows_are, rows_given, rows_named, some_nonzero, written_form}
 use Rattle.proof_files.proofs.laws.written_proof_laws.Goals as goal
 

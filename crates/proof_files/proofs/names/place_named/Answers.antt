@@ -1,9 +1,7 @@
 -- The name is one of a direction, of a variable, of a row, or none.
 use Rattle.std.proofs.Common.{◌≡◌, ◌∷◌, ◌++◌, ◌+◌, List, ℕ, None, Some, codes, length, sym, subst, ◌∙◌}
 use Rattle.csv.specs.Records.{fields_of}
-use Rattle.plan_files.specs.Files.{Fields, field, name_of, subscripts_in}
-use Rattle.plan_files.specs.Reading.{IsEntry}
-use Rattle.proof_files.specs.ProofRecords.{proof_names}
+use Rattle.proof_files.proofs.Common.{Fields, field, name_of, subscripts_in, IsEntry, proof_names}
 use Rattle.proof_files.proofs.NameLaws.{direction_none, direction_some, named_none, row_some, variable_some}
 use Rattle.proof_files.proofs.names.place_named.Goals as goal
 

@@ -1,6 +1,5 @@
 -- Whether none of those that are left is there.
-use Rattle.std.proofs.Common.{◌≡◌, drop, is_none}
-use Rattle.std.specs.List.{list_all}
+use Rattle.proof_files.proofs.Common.{◌≡◌, drop, is_none, list_all}
 use Rattle.proof_files.proofs.reading.has_none.Given as goal
 
 abbrev pub invariant-loop-value : goal.invariant-loop-value

@@ -1,9 +1,4 @@
-use Rattle.std.proofs.Common.{List, ap, ◌∙◌}
-use Rattle.exact_num.specs.declared.fraction.Frac.{Frac}
-use Rattle.row_core.specs.declared.RowName.{RowName}
-use Rattle.row_core.specs.Numbers.{ascends, keys_of}
-use Rattle.row_core.specs.Order.{row_name_cmp}
-use Rattle.row_core.proofs.Orders.{row_name_cmp_total}
+use Rattle.proof_files.proofs.Common.{List, ap, ◌∙◌, Frac, RowName, ascends, keys_of, row_name_cmp, row_name_cmp_total}
 use Rattle.proof_files.proofs.SubLists.{ascends_with}
 use Rattle.proof_files.proofs.reading.multipliers_with.Goals as goal
 

@@ -1,9 +1,4 @@
-use Rattle.std.proofs.Common.{List, ap, ◌∙◌}
-use Rattle.exact_num.specs.declared.fraction.Frac.{Frac}
-use Rattle.row_core.specs.declared.Var.{Var}
-use Rattle.row_core.specs.Numbers.{ascends, keys_of}
-use Rattle.row_core.specs.Order.{var_cmp}
-use Rattle.row_core.proofs.Orders.{var_cmp_total}
+use Rattle.proof_files.proofs.Common.{List, ap, ◌∙◌, Frac, Var, ascends, keys_of, var_cmp, var_cmp_total}
 use Rattle.proof_files.proofs.SubLists.{ascends_with}
 use Rattle.proof_files.proofs.reading.plan_with.Goals as goal
 

@@ -1,9 +1,5 @@
 -- The values of each sort are those that were taken for its names.
-use Rattle.std.proofs.Common.{ap, sym, subst, ◌∙◌, drop, take, List, length, Option}
-use Rattle.exact_num.specs.declared.fraction.Frac.{Frac}
-use Rattle.plan_files.specs.Answers.{row_names, variable_names}
-use Rattle.plan_files.specs.Reading.{AreTaken}
-use Rattle.proof_files.specs.ProofRecords.{direction_names}
+use Rattle.proof_files.proofs.Common.{ap, sym, subst, ◌∙◌, drop, take, List, length, Option, Frac, row_names, variable_names, AreTaken, direction_names}
 use Rattle.proof_files.proofs.PartLaws.{parts_taken}
 use Rattle.proof_files.proofs.reading.proof_of.Goals as goal
 

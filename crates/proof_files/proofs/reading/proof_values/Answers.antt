@@ -1,7 +1,5 @@
 -- There are as many values as names, and a fault is that of these names.
-use Rattle.std.proofs.Common.{◌≡◌, List, length, sym, ◌∙◌, rules}
-use Rattle.plan_files.specs.Files.{Fields}
-use Rattle.proof_files.specs.ProofRecords.{proof_names}
+use Rattle.proof_files.proofs.Common.{◌≡◌, List, length, sym, ◌∙◌, rules, Fields, proof_names}
 use Rattle.proof_files.proofs.PartLaws.{names_many}
 use Rattle.proof_files.proofs.reading.proof_values.Goals as goal
 

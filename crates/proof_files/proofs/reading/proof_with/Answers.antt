@@ -1,10 +1,5 @@
 -- What the values say that there are.
-use Rattle.std.proofs.Common.{◌≡◌, None, refl, sym, subst, ◌∙◌}
-use Rattle.plan_files.specs.Reading.{first_without}
-use Rattle.plan_files.specs.Records.{row_fields, variable_fields}
-use Rattle.plan_files.proofs.ToldLaws.{first_told}
-use Rattle.proof_files.specs.ProofRecords.{direction_fields}
-use Rattle.proof_files.specs.Proofs.{AreAllTold, AreTold, HasNoPlan}
+use Rattle.proof_files.proofs.Common.{◌≡◌, None, refl, sym, subst, ◌∙◌, first_without, row_fields, variable_fields, first_told, direction_fields, AreAllTold, AreTold, HasNoPlan}
 use Rattle.proof_files.proofs.ToldProofs.{all_told_with, nothing_named, something_named, told_with}
 use Rattle.proof_files.proofs.reading.proof_with.Goals.{else-has_none-via-then-has_none+else-has_none-2, else-has_none-via-else-has_none}
 use Rattle.proof_files.proofs.reading.proof_with.Goals as goal

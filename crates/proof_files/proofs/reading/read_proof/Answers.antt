@@ -1,17 +1,8 @@
 -- The records are right, and what they give is what was read.
-use Rattle.std.proofs.Common.{◌≡◌, List, Option, inl, inr, map, sym, subst, ◌∙◌}
+use Rattle.proof_files.proofs.Common.{◌≡◌, List, Option, inl, inr, map, sym, subst, ◌∙◌, Frac, RowName, PlanFault, BreaksFirst, IsFailOf, records_of, name_of_row, AreRead, AreTaken, proof_names, AreRecordsOf, IsProofFault, MissesFirst}
 use Rattle.std.proofs.lemmas.Result.{IfErr-weaker, IfOk-weaker, err_from_is_err_and}
-use Rattle.exact_num.specs.declared.fraction.Frac.{Frac}
-use Rattle.row_core.specs.declared.RowName.{RowName}
 use Rattle.plan_files.specs.declared.faults.PlanFail.{PlanFail}
 use Rattle.plan_files.specs.declared.faults.PlanFail.TheVariants.{Fault, Memory}
-use Rattle.plan_files.specs.declared.faults.PlanFault.{PlanFault}
-use Rattle.plan_files.specs.Answers.{BreaksFirst, IsFailOf}
-use Rattle.plan_files.specs.Files.{records_of}
-use Rattle.plan_files.specs.Listed.{name_of_row}
-use Rattle.plan_files.specs.Reading.{AreRead, AreTaken}
-use Rattle.proof_files.specs.ProofRecords.{proof_names}
-use Rattle.proof_files.specs.Proofs.{AreRecordsOf, IsProofFault, MissesFirst}
 use Rattle.proof_files.proofs.reading.read_proof.Goals as goal
 
 fail_weaker : (P Q : PlanFault → Type 0) → ((fault : PlanFault) → P fault → Q fault) → (fail : PlanFail) → IsFailOf P fail → IsFailOf Q fail

@@ -1,15 +1,6 @@
 -- Record by record.
-use Rattle.std.proofs.Common.{ℕ, List, ◌++◌, ◌+◌, drop, map, sym, subst, ap, ◌∙◌}
-use Rattle.std.specs.List.{AllByRecursion}
-use Rattle.csv.specs.Writing.{default_writer, row_text}
-use Rattle.exact_num.specs.Rational.{Rational}
-use Rattle.exact_num.specs.declared.fraction.Frac.{Frac}
-use Rattle.row_core.specs.declared.Var.{Var}
-use Rattle.row_core.specs.Kinds.{IsKind}
+use Rattle.proof_files.proofs.Common.{ℕ, List, ◌++◌, ◌+◌, drop, map, sym, subst, ap, ◌∙◌, AllByRecursion, default_writer, row_text, Rational, Frac, Var, IsKind, valued, direction_record, records_text}
 use Rattle.row_core.specs.NameTexts.{VariableIsWithin}
-use Rattle.row_core.specs.Plans.{valued}
-use Rattle.proof_files.specs.ProofRecords.{direction_record}
-use Rattle.plan_files.specs.Texts.{records_text}
 use Rattle.plan_files.proofs.TextLaws.{text_next, valued_at}
 use Rattle.proof_files.proofs.writing.push_direction.Goals as goal
 

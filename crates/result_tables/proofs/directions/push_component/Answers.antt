@@ -1,6 +1,5 @@
 -- Each subscript that there is is the position of a member.
-use Rattle.row_core.specs.Kinds.{kind_at, kind_has}
-use Rattle.plan_files.proofs.WithinLaws.{within_at, within_places}
+use Rattle.result_tables.proofs.Common.{kind_at, kind_has, within_at, within_places}
 use Rattle.result_tables.proofs.directions.push_component.Goals as goal
 
 pub push_amount_record-requires-clause-within : goal.push_amount_record-requires-clause-within

@@ -1,15 +1,6 @@
 -- Variable by variable.
-use Rattle.std.proofs.Common.{ℕ, ◌+◌, List, ◌++◌, ◌∷◌, [], drop, map, sym, ap, ◌∙◌, subst}
-use Rattle.std.proofs.lemmas.List.{map-append}
-use Rattle.exact_num.specs.Rational.{Rational}
+use Rattle.result_tables.proofs.Common.{ℕ, ◌+◌, List, ◌++◌, ◌∷◌, [], drop, map, sym, ap, ◌∙◌, subst, map-append, Rational, records_text, Var, IsKind, VariableIsWithin, valued, SetLists, direction_table, is_chosen, named_record}
 use Rattle.exact_num.specs.declared.fraction.Frac.{Frac}
-use Rattle.plan_files.specs.Texts.{records_text}
-use Rattle.row_core.specs.declared.Var.{Var}
-use Rattle.row_core.specs.Kinds.{IsKind}
-use Rattle.row_core.specs.NameTexts.{VariableIsWithin}
-use Rattle.row_core.specs.Plans.{valued}
-use Rattle.model_sets.specs.Members.{SetLists}
-use Rattle.result_tables.specs.Tables.{direction_table, is_chosen, named_record}
 use Rattle.result_tables.proofs.TextLaws.{IsJoined, mapped_at, passed_joined, text_next}
 use Rattle.result_tables.proofs.directions.push_components.Goals as goal
 

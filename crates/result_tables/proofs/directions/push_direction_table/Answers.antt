@@ -1,9 +1,5 @@
 -- The heading, and the records.
-use Rattle.std.proofs.Common.{codes, append_assoc, ◌∙◌}
-use Rattle.std.proofs.lemmas.Result.{on_ok_weaker}
-use Rattle.plan_files.specs.Texts.{records_text}
-use Rattle.result_tables.specs.Lines.{heading}
-use Rattle.result_tables.specs.Tables.{direction_table}
+use Rattle.result_tables.proofs.Common.{codes, append_assoc, ◌∙◌, on_ok_weaker, records_text, heading, direction_table}
 use Rattle.result_tables.proofs.directions.push_direction_table.Goals as goal
 
 pub returns : goal.returns

@@ -1,7 +1,6 @@
 -- The step of a row, and that each subscript that there is is the position of a member.
-use Rattle.std.proofs.Common.{sym}
+use Rattle.result_tables.proofs.Common.{sym, within_at, within_places}
 use Rattle.row_core.specs.Equations.{equation_at, equation_has}
-use Rattle.plan_files.proofs.WithinLaws.{within_at, within_places}
 use Rattle.result_tables.proofs.PriceLaws.{no_step, step_fits, step_stops}
 use Rattle.result_tables.proofs.prices.push_price.Goals as goal
 

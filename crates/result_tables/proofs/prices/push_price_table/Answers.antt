@@ -1,9 +1,5 @@
 -- The heading, and the records.
-use Rattle.std.proofs.Common.{codes, append_assoc, ◌∙◌}
-use Rattle.std.proofs.lemmas.Result.{on_ok_weaker}
-use Rattle.plan_files.specs.Texts.{records_text}
-use Rattle.result_tables.specs.Lines.{heading}
-use Rattle.result_tables.specs.Tables.{price_table}
+use Rattle.result_tables.proofs.Common.{codes, append_assoc, ◌∙◌, on_ok_weaker, records_text, heading, price_table}
 use Rattle.result_tables.proofs.prices.push_price_table.Goals as goal
 
 pub returns-clause-text : goal.returns-clause-text

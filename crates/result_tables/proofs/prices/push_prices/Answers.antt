@@ -1,17 +1,5 @@
 -- Row by row.
-use Rattle.std.proofs.Common.{ℕ, ◌+◌, List, ◌++◌, ◌∷◌, [], drop, sym, ap, ◌∙◌, subst, arith}
-use Rattle.std.proofs.lemmas.List.{at_drop_all}
-use Rattle.std.proofs.lemmas.Result.{err_from_is_err_and}
-use Rattle.exact_num.specs.Rational.{Rational}
-use Rattle.exact_num.proofs.StepLaws.{first_wide-nil}
-use Rattle.model_sets.specs.Members.{SetLists}
-use Rattle.plan_files.specs.Listed.{IsListedRow, name_of_row}
-use Rattle.plan_files.specs.Texts.{records_text}
-use Rattle.row_core.specs.declared.Row.{Row}
-use Rattle.row_core.specs.declared.RowName.{RowName}
-use Rattle.result_tables.specs.Causes.{IsFirstStop}
-use Rattle.result_tables.specs.Prices.{is_balance, named_price, price_steps}
-use Rattle.result_tables.specs.Tables.{price_record, price_table}
+use Rattle.result_tables.proofs.Common.{ℕ, ◌+◌, List, ◌++◌, ◌∷◌, [], drop, sym, ap, ◌∙◌, subst, arith, at_drop_all, err_from_is_err_and, Rational, first_wide-nil, SetLists, IsListedRow, name_of_row, records_text, Row, RowName, IsFirstStop, is_balance, named_price, price_steps, price_record, price_table}
 use Rattle.result_tables.proofs.PriceLaws.{stops_from, wide, wide_next}
 use Rattle.result_tables.proofs.TextLaws.{IsJoined, mapped_at, shown_joined, text_next}
 use Rattle.result_tables.proofs.prices.push_prices.Goals as goal

@@ -1,12 +1,5 @@
 -- Table by table.
-use Rattle.std.proofs.Common.{ℕ, ◌+◌, List, ◌++◌, drop, map, sym, ap, ◌∙◌}
-use Rattle.std.proofs.lemmas.List.{append-nil, map-append}
-use Rattle.std.proofs.lemmas.Grind.{flat_map-append}
-use Rattle.std.specs.List.{flat_map}
-use Rattle.exact_num.specs.Rational.{Rational}
-use Rattle.model_sets.specs.Members.{SetLists}
-use Rattle.row_core.specs.declared.Var.{Var}
-use Rattle.result_tables.specs.Tables.{kind_table, table_kinds, table_text}
+use Rattle.result_tables.proofs.Common.{ℕ, ◌+◌, List, ◌++◌, drop, map, sym, ap, ◌∙◌, append-nil, map-append, flat_map-append, flat_map, Rational, SetLists, Var, kind_table, table_kinds, table_text}
 use Rattle.result_tables.proofs.TextLaws.{IsJoined, text_next}
 use Rattle.result_tables.proofs.quantities.push_kind_tables.Goals as goal
 

@@ -1,7 +1,5 @@
 -- What is written and the tables of the kinds that are left are the whole.
-use Rattle.std.proofs.Common.{◌≡◌, ◌++◌, drop, map}
-use Rattle.std.specs.List.{flat_map}
-use Rattle.result_tables.specs.Tables.{kind_table, table_text}
+use Rattle.result_tables.proofs.Common.{◌≡◌, ◌++◌, drop, map, flat_map, kind_table, table_text}
 use Rattle.result_tables.proofs.quantities.push_kind_tables.Given as goal
 
 abbrev pub invariant-loop-kind : goal.invariant-loop-kind

@@ -1,7 +1,5 @@
 -- What is written and the records of the variables that are left are the whole.
-use Rattle.std.proofs.Common.{◌≡◌, ◌++◌, drop}
-use Rattle.plan_files.specs.Texts.{records_text}
-use Rattle.result_tables.specs.Tables.{kind_table}
+use Rattle.result_tables.proofs.Common.{◌≡◌, ◌++◌, drop, records_text, kind_table}
 use Rattle.result_tables.proofs.quantities.push_quantities.Given as goal
 
 abbrev pub invariant-loop-var : goal.invariant-loop-var

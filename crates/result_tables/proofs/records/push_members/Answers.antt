@@ -1,11 +1,7 @@
 -- One member after another.
-use Rattle.std.proofs.Common.{◌≡◌, List, [], ◌∷◌, ◌++◌, ℕ, append_assoc, ◌∙◌, if◌then◌else◌}
-use Rattle.std.proofs.lemmas.List.{append-nil}
-use Rattle.std.proofs.lemmas.Result.{on_ok_weaker}
+use Rattle.result_tables.proofs.Common.{◌≡◌, List, [], ◌∷◌, ◌++◌, ℕ, append_assoc, ◌∙◌, if◌then◌else◌, append-nil, on_ok_weaker, Fields, member}
 use Rattle.csv.specs.Records.{fields_of}
-use Rattle.plan_files.specs.Files.{Fields}
 use Rattle.plan_files.specs.Records.{has_at}
-use Rattle.row_core.specs.NameTexts.{member}
 use Rattle.result_tables.proofs.records.push_members.Goals as goal
 
 eight : {X : Type 0} (start a b c d e f g h : List X) → (((((((start ++ a) ++ b) ++ c) ++ d) ++ e) ++ f) ++ g) ++ h ≡ start ++ (a ++ (b ++ (c ++ (d ++ (e ++ (f ++ (g ++ (h ++ []))))))))

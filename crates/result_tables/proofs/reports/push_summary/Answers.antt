@@ -1,8 +1,6 @@
 -- One line after another.
-use Rattle.std.proofs.Common.{◌≡◌, ℕ, List, ◌++◌, append_assoc, ap, ◌∙◌}
+use Rattle.result_tables.proofs.Common.{◌≡◌, ℕ, List, ◌++◌, append_assoc, ap, ◌∙◌, value_of, amount_line, count_lines}
 use Rattle.std.specs.Prelude.{codes}
-use Rattle.exact_num.specs.Value.{value_of}
-use Rattle.result_tables.specs.Lines.{amount_line, count_lines}
 use Rattle.result_tables.proofs.reports.push_summary.Goals as goal
 
 joined : (start first second third last : List ℕ) → (((start ++ first) ++ second) ++ third) ++ last ≡ start ++ (((first ++ second) ++ third) ++ last)

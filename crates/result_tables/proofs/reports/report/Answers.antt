@@ -1,11 +1,5 @@
 -- The first lines, twelve tables, the table of prices and the last line.
-use Rattle.std.proofs.Common.{◌≡◌, List, ℕ, [], ◌∷◌, ◌++◌, map, append_assoc, sym, ap, ◌∙◌}
-use Rattle.std.specs.List.{flat_map}
-use Rattle.std.proofs.lemmas.Grind.{flat_map-append}
-use Rattle.std.proofs.lemmas.List.{append-nil}
-use Rattle.exact_num.specs.Value.{value_of}
-use Rattle.result_tables.specs.Reports.{end_line, summary_text}
-use Rattle.result_tables.specs.Tables.{Table, kind_table, price_table, table_kinds, table_text}
+use Rattle.result_tables.proofs.Common.{◌≡◌, List, ℕ, [], ◌∷◌, ◌++◌, map, append_assoc, sym, ap, ◌∙◌, flat_map, flat_map-append, append-nil, value_of, end_line, summary_text, Table, kind_table, price_table, table_kinds, table_text}
 use Rattle.result_tables.proofs.reports.report.Goals as goal
 
 joined : (start : List ℕ) (tables : List Table) (last : Table) (end : List ℕ) → ((start ++ flat_map table_text tables) ++ table_text last) ++ end ≡ (start ++ flat_map table_text (tables ++ last ∷ [])) ++ end

@@ -1,7 +1,5 @@
 -- A whole number over 1 is in lowest terms.
-use Rattle.std.proofs.Common.{refl, arith}
-use Rattle.std.proofs.lemmas.Int.{ints}
-use Rattle.exact_num.specs.Gcd.{gcd_of, gcd_within}
+use Rattle.row_core.proofs.Common.{refl, arith, ints, gcd_of, gcd_within}
 use Rattle.row_core.proofs.amounts.one.Goals as goal
 
 pub invariant_of-result : goal.invariant_of-result

@@ -1,19 +1,5 @@
 -- The factors, and what the combined row means.
-use Rattle.std.proofs.Common.{◌≡◌, ℤ, pos, List, sym, ap, ap₂, ◌∙◌, subst, to_z, of_z}
-use Rattle.std.specs.Int.{w128}
-use Rattle.std.specs.Prelude.{int_div, ◌<ℤ◌, IfOk}
-use Rattle.std.proofs.lemmas.Result.{IfOk-weaker}
-use Rattle.exact_num.specs.Formed.{common}
-use Rattle.exact_num.specs.Range.{InRange, all_fit}
-use Rattle.exact_num.specs.Value.{value_of}
-use Rattle.exact_num.proofs.RangeLaws.{back_in_range}
-use Rattle.row_core.specs.declared.Var.{Var}
-use Rattle.row_core.specs.Numbers.{numbers_of, keys_of, ascends}
-use Rattle.row_core.specs.Order.{var_cmp}
-use Rattle.row_core.specs.Rows.{number_at}
-use Rattle.row_core.specs.Forms.{form_of}
-use Rattle.row_core.specs.Combined.{row_factor, def_factor}
-use Rattle.row_core.specs.Scaled.{IsScaled, SaysTheSameUnder, IsMade, IsCombined}
+use Rattle.row_core.proofs.Common.{◌≡◌, ℤ, pos, List, sym, ap, ap₂, ◌∙◌, subst, to_z, of_z, w128, int_div, ◌<ℤ◌, IfOk, IfOk-weaker, common, InRange, all_fit, value_of, back_in_range, Var, numbers_of, keys_of, ascends, var_cmp, number_at, form_of, row_factor, def_factor, IsScaled, SaysTheSameUnder, IsMade, IsCombined}
 use Rattle.row_core.proofs.CombinedLaws.{row_fits, common_positive, row_factor_positive, made-says, made-IsScaled, combined-removed}
 use Rattle.row_core.proofs.combining.combine.Goals as goal
 

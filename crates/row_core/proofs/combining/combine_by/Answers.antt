@@ -1,19 +1,6 @@
 -- The entries, then the right side, then the division.
-use Rattle.std.proofs.Common.{◌≡◌, ℤ, pos, Bool, false, ◌∷◌, refl, sym, ap, ap₂, ◌∙◌, to_z, of_z, List}
-use Rattle.std.specs.Int.{w128}
-use Rattle.std.specs.Prelude.{int_div}
-use Rattle.std.proofs.lemmas.Result.{err_from_is_err_and}
-use Rattle.exact_num.specs.Range.{InRange, all_fit}
-use Rattle.exact_num.specs.Rational.{lowest}
-use Rattle.exact_num.proofs.RangeLaws.{back_in_range}
-use Rattle.row_core.specs.declared.Row.{Row}
-use Rattle.row_core.specs.declared.Var.{Var}
-use Rattle.row_core.specs.Numbers.{numbers_of, variables_of, ascends, none_zero}
-use Rattle.row_core.specs.Order.{var_cmp}
-use Rattle.row_core.specs.Written.{row_divisor, entries_divided}
+use Rattle.row_core.proofs.Common.{◌≡◌, ℤ, pos, Bool, false, ◌∷◌, refl, sym, ap, ap₂, ◌∙◌, to_z, of_z, List, w128, int_div, err_from_is_err_and, InRange, all_fit, lowest, back_in_range, Row, Var, numbers_of, variables_of, ascends, none_zero, var_cmp, row_divisor, entries_divided, Form, form_of, beside, lessened, less, less_formed, all_less_formed, undivided_formed, undivided_entries, undivided_right}
 use Rattle.row_core.proofs.WritingSteps.{IsStop-more}
-use Rattle.row_core.specs.Forms.{Form, form_of}
-use Rattle.row_core.specs.Combined.{beside, lessened, less, less_formed, all_less_formed, undivided_formed, undivided_entries, undivided_right}
 use Rattle.row_core.proofs.CombinedLaws.{row_fits, rhs_fits, formed-fit, formed-wide_entries, formed-wide_right}
 use Rattle.row_core.proofs.LessenedLaws.{ascends-beside, ascends-lessened, none_zero-lessened, lessened-fit}
 use Rattle.row_core.proofs.combining.combine_by.Goals as goal

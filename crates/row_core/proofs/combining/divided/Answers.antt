@@ -1,14 +1,5 @@
 -- The divided row keeps what a row keeps.
-use Rattle.std.proofs.Common.{◌≡◌, ℕ, ℤ, pos, true, List, ◌∷◌, sym, ap, ap₂, ◌∙◌, subst, to_z, of_z}
-use Rattle.std.specs.Int.{w128}
-use Rattle.std.specs.Prelude.{unsigned_abs, int_div}
-use Rattle.std.specs.Cmp.Derive.{both_true}
-use Rattle.exact_num.specs.Range.{all_fit}
-use Rattle.exact_num.proofs.RangeLaws.{back_in_range, in_range-yes}
-use Rattle.exact_num.proofs.StepLaws.{all_fit-cons}
-use Rattle.row_core.specs.Numbers.{variables_of, numbers_of, ascends, none_zero, all_in_range, IsLowest}
-use Rattle.row_core.specs.Order.{var_cmp}
-use Rattle.row_core.specs.Written.{row_divisor, entries_divided}
+use Rattle.row_core.proofs.Common.{◌≡◌, ℕ, ℤ, pos, true, List, ◌∷◌, sym, ap, ap₂, ◌∙◌, subst, to_z, of_z, w128, unsigned_abs, int_div, both_true, all_fit, back_in_range, in_range-yes, all_fit-cons, variables_of, numbers_of, ascends, none_zero, all_in_range, IsLowest, var_cmp, row_divisor, entries_divided}
 use Rattle.row_core.proofs.WrittenLaws.{numbers_divided, numbers_of-divided, variables_of-divided, row_divisor-is, none_zero-divided, all_in_range-divided}
 use Rattle.row_core.proofs.combining.divided.Goals as goal
 

@@ -1,6 +1,5 @@
 -- Row by row.
-use Rattle.std.proofs.Common.{map}
-use Rattle.row_core.specs.Contents.{contents_of}
+use Rattle.row_core.proofs.Common.{map, contents_of}
 use Rattle.row_core.proofs.CopyLaws.{copies-all, copies-next}
 use Rattle.row_core.proofs.copying.copy_rows.Goals as goal
 

@@ -1,6 +1,5 @@
 -- With the rows that are left, the copies so far are those of all rows.
-use Rattle.std.proofs.Common.{◌≡◌, ◌++◌, drop, map}
-use Rattle.row_core.specs.Contents.{contents_of}
+use Rattle.row_core.proofs.Common.{◌≡◌, ◌++◌, drop, map, contents_of}
 use Rattle.row_core.proofs.copying.copy_rows.Given as goal
 
 abbrev pub invariant-loop-row : goal.invariant-loop-row

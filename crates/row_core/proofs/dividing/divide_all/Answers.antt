@@ -1,12 +1,5 @@
 -- One entry after another.
-use Rattle.std.proofs.Common.{◌≡◌, ℕ, ◌+◌, ◌<◌, ℤ, pos, true, List, ◌++◌, length, get_or, set, take, drop, sym, ap, ap₂, ◌∙◌, subst, arith, to_z, of_z}
-use Rattle.std.specs.Int.{w128}
-use Rattle.std.specs.Prelude.{unsigned_abs, int_div, ◌<ℤ◌}
-use Rattle.std.proofs.lemmas.Int.{ints}
-use Rattle.exact_num.specs.Range.{InRange}
-use Rattle.exact_num.proofs.Integers.{pos-unsigned_abs}
-use Rattle.exact_num.proofs.RangeLaws.{back_in_range}
-use Rattle.row_core.specs.Written.{entries_divided}
+use Rattle.row_core.proofs.Common.{◌≡◌, ℕ, ◌+◌, ◌<◌, ℤ, pos, true, List, ◌++◌, length, get_or, set, take, drop, sym, ap, ap₂, ◌∙◌, subst, arith, to_z, of_z, w128, unsigned_abs, int_div, ◌<ℤ◌, ints, InRange, pos-unsigned_abs, back_in_range, entries_divided}
 use Rattle.row_core.proofs.WrittenLaws.{entries_divided-one}
 use Rattle.row_core.proofs.WritingSteps.{entries_fit, entries_fit-at, undivided_at, divided_step}
 use Rattle.row_core.proofs.dividing.divide_all.Goals as goal

@@ -1,15 +1,5 @@
 -- The greatest common divisor, number by number.
-use Rattle.std.proofs.Common.{◌≡◌, ℕ, ◌+◌, ◌<◌, ℤ, pos, ◌∷◌, drop, sym, ap, ◌∙◌, subst, arith, to_z, of_z}
-use Rattle.std.specs.Int.{w128}
-use Rattle.std.specs.Prelude.{unsigned_abs, ◌≤ℤ◌, ◌<ℤ◌}
-use Rattle.std.proofs.lemmas.Int.{ints}
-use Rattle.exact_num.specs.Gcd.{gcd_of}
-use Rattle.exact_num.specs.Range.{InRange}
-use Rattle.exact_num.proofs.GcdLaws.{gcd_of-zero, one-gcd_of}
-use Rattle.exact_num.proofs.Integers.{pos-unsigned_abs, unsigned_abs_pos, nonzero_of_pos}
-use Rattle.exact_num.proofs.RangeLaws.{back_in_range}
-use Rattle.row_core.specs.Numbers.{numbers_of}
-use Rattle.row_core.specs.Written.{common_divisor}
+use Rattle.row_core.proofs.Common.{◌≡◌, ℕ, ◌+◌, ◌<◌, ℤ, pos, ◌∷◌, drop, sym, ap, ◌∙◌, subst, arith, to_z, of_z, w128, unsigned_abs, ◌≤ℤ◌, ◌<ℤ◌, ints, gcd_of, InRange, gcd_of-zero, one-gcd_of, pos-unsigned_abs, unsigned_abs_pos, nonzero_of_pos, back_in_range, numbers_of, common_divisor}
 use Rattle.row_core.proofs.WritingSteps.{item_fits, nonnegative_is, shared-item, shared-end, row_divisor-by, above_zero}
 use Rattle.row_core.proofs.dividing.divisor_of.Goals as goal
 

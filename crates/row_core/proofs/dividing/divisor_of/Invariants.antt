@@ -1,10 +1,5 @@
 -- The divisor so far and that of what is left have the divisor of all.
-use Rattle.std.proofs.Common.{◌≡◌, pos, ◌∷◌, drop}
-use Rattle.std.specs.Prelude.{◌≤ℤ◌, unsigned_abs}
-use Rattle.exact_num.specs.Gcd.{gcd_of}
-use Rattle.exact_num.specs.Range.{InRange}
-use Rattle.row_core.specs.Numbers.{numbers_of}
-use Rattle.row_core.specs.Written.{common_divisor}
+use Rattle.row_core.proofs.Common.{◌≡◌, pos, ◌∷◌, drop, ◌≤ℤ◌, unsigned_abs, gcd_of, InRange, numbers_of, common_divisor}
 use Rattle.row_core.proofs.dividing.divisor_of.Given as goal
 
 abbrev pub invariant-loop-entry : goal.invariant-loop-entry

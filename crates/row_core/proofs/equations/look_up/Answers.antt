@@ -1,6 +1,4 @@
-use Rattle.std.proofs.Common.{◌-◌, arith}
-use Rattle.row_core.specs.Tables.{described_equation}
-use Rattle.row_core.specs.Equations.{equations, no_equation}
+use Rattle.row_core.proofs.Common.{◌-◌, arith, described_equation, equations, no_equation}
 use Rattle.row_core.proofs.Tables.{described_entry}
 use Rattle.row_core.proofs.equations.look_up.Goals as goal
 

@@ -1,6 +1,4 @@
-use Rattle.std.proofs.Common.{◌∙◌, sym, ap, subst}
-use Rattle.row_core.specs.Equations.{Equation}
-use Rattle.row_core.specs.Words.{IsPlain}
+use Rattle.row_core.proofs.Common.{◌∙◌, sym, ap, subst, Equation, IsPlain}
 use Rattle.row_core.proofs.Words.{word_of_equation_apart, word_of_equation_plain}
 use Rattle.row_core.proofs.equations.row_word.Goals as goal
 

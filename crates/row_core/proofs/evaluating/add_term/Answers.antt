@@ -1,12 +1,5 @@
 -- The product, and then the sum.
-use Rattle.std.proofs.Common.{◌≡◌, ℤ, true, false, ◌&&◌, sym, ap, ◌∙◌}
-use Rattle.exact_num.specs.Formed.{product_formed, sum_formed}
-use Rattle.exact_num.specs.Range.{all_fit}
-use Rattle.exact_num.specs.Rational.{Rational, whole, times}
-use Rattle.exact_num.specs.Value.{value_of}
-use Rattle.exact_num.proofs.RangeLaws.{back_in_range, is_ok-false}
-use Rattle.exact_num.proofs.StepLaws.{all_fit-append}
-use Rattle.row_core.specs.Evaluated.{term_formed}
+use Rattle.row_core.proofs.Common.{◌≡◌, ℤ, true, false, ◌&&◌, sym, ap, ◌∙◌, product_formed, sum_formed, all_fit, Rational, whole, times, value_of, back_in_range, is_ok-false, all_fit-append, term_formed}
 use Rattle.row_core.proofs.evaluating.add_term.Goals as goal
 
 parts : (s v : Rational) (n : ℤ) → all_fit (term_formed s n v) ≡ (all_fit (product_formed (whole n) v) && all_fit (sum_formed s (times (whole n) v)))

@@ -1,7 +1,5 @@
 -- The right side of a row fits.
-use Rattle.std.proofs.Common.{sym, subst}
-use Rattle.exact_num.specs.Range.{InRange}
-use Rattle.exact_num.proofs.RangeLaws.{back_in_range}
+use Rattle.row_core.proofs.Common.{sym, subst, InRange, back_in_range}
 use Rattle.row_core.proofs.CombinedLaws.{rhs_fits}
 use Rattle.row_core.proofs.evaluating.eval.Goals as goal
 

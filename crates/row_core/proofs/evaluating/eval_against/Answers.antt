@@ -1,23 +1,7 @@
 -- Entry by entry, and last the right side.
-use Rattle.std.proofs.Common.{◌≡◌, ℕ, ◌<◌, ℤ, pos, true, false, List, ◌&&◌, length, get_or, refl, sym, ap, ap₂, ◌∙◌, subst, to_z, of_z, ◌-ℤ◌, ◌*ℤ◌}
-use Rattle.std.specs.Int.{w128}
-use Rattle.std.specs.Cmp.Derive.{both_true}
-use Rattle.exact_num.specs.Formed.{difference_formed}
-use Rattle.exact_num.specs.Range.{InRange, all_fit}
-use Rattle.exact_num.specs.Rational.{Rational, whole, plus, minus, times}
-use Rattle.exact_num.specs.Value.{value_of}
-use Rattle.exact_num.proofs.RangeLaws.{back_in_range}
-use Rattle.exact_num.proofs.StepLaws.{all_fit-append}
-use Rattle.row_core.specs.declared.Row.{Row}
-use Rattle.row_core.specs.declared.Var.{Var}
-use Rattle.row_core.specs.Numbers.{numbers_of}
-use Rattle.row_core.specs.Rows.{row_sum}
-use Rattle.row_core.specs.Values.{IsOver}
+use Rattle.row_core.proofs.Common.{◌≡◌, ℕ, ◌<◌, ℤ, pos, true, false, List, ◌&&◌, length, get_or, refl, sym, ap, ap₂, ◌∙◌, subst, to_z, of_z, ◌-ℤ◌, ◌*ℤ◌, w128, both_true, difference_formed, InRange, all_fit, Rational, whole, plus, minus, times, value_of, back_in_range, all_fit-append, Row, Var, numbers_of, row_sum, IsOver, var_cmp, value_in, sum_from, term_formed, sum_from_formed, evaluated_formed}
 use Rattle.row_core.proofs.WritingSteps.{entries_fit-at, no_entry}
 use Rattle.row_core.proofs.CombinedLaws.{row_fits, and_false}
-use Rattle.row_core.specs.Order.{var_cmp}
-use Rattle.row_core.specs.Plans.{value_in}
-use Rattle.row_core.specs.Evaluated.{sum_from, term_formed, sum_from_formed, evaluated_formed}
 use Rattle.row_core.proofs.EvaluatedLaws.{sum-next, formed-next, formed-stop, sum-done, formed-done, evaluated-IsOver}
 use Rattle.row_core.proofs.evaluating.eval_against.Goals as goal
 

@@ -1,11 +1,5 @@
 -- The sum so far and the other entries give the sum of all; and form what is left of what all form.
-use Rattle.std.proofs.Common.{◌≡◌, pos, drop}
-use Rattle.exact_num.specs.Range.{all_fit}
-use Rattle.exact_num.specs.Rational.{whole}
-use Rattle.exact_num.specs.Value.{value_of}
-use Rattle.row_core.specs.Order.{var_cmp}
-use Rattle.row_core.specs.Plans.{value_in}
-use Rattle.row_core.specs.Evaluated.{sum_from, sum_from_formed}
+use Rattle.row_core.proofs.Common.{◌≡◌, pos, drop, all_fit, whole, value_of, var_cmp, value_in, sum_from, sum_from_formed}
 use Rattle.row_core.proofs.evaluating.eval_against.Given as goal
 
 abbrev pub invariant-loop-entry : goal.invariant-loop-entry

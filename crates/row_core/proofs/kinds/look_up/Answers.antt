@@ -1,6 +1,4 @@
-use Rattle.std.proofs.Common.{◌-◌, arith}
-use Rattle.row_core.specs.Tables.{described_kind}
-use Rattle.row_core.specs.Kinds.{kinds, no_kind}
+use Rattle.row_core.proofs.Common.{◌-◌, arith, described_kind, kinds, no_kind}
 use Rattle.row_core.proofs.Tables.{described_entry}
 use Rattle.row_core.proofs.kinds.look_up.Goals as goal
 

@@ -1,6 +1,4 @@
-use Rattle.std.proofs.Common.{◌∙◌, sym, ap, subst}
-use Rattle.row_core.specs.Kinds.{Kind}
-use Rattle.row_core.specs.Words.{IsPlain}
+use Rattle.row_core.proofs.Common.{◌∙◌, sym, ap, subst, Kind, IsPlain}
 use Rattle.row_core.proofs.Words.{word_of_kind_apart, word_of_kind_plain}
 use Rattle.row_core.proofs.kinds.var_word.Goals as goal
 

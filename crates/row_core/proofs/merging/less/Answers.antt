@@ -1,7 +1,5 @@
 -- Product, product, difference: the first that doesn't fit stops.
-use Rattle.std.proofs.Common.{◌≡◌, ◌*ℤ◌, sym, ap, ap₂, ◌∙◌, ◌-ℤ◌}
-use Rattle.exact_num.specs.Range.{InRange, in_range}
-use Rattle.exact_num.proofs.RangeLaws.{back_in_range, is_ok-false, IfOk-equal}
+use Rattle.row_core.proofs.Common.{◌≡◌, ◌*ℤ◌, sym, ap, ap₂, ◌∙◌, ◌-ℤ◌, InRange, in_range, back_in_range, is_ok-false, IfOk-equal}
 use Rattle.row_core.proofs.LessLaws.{stops_left, stops_right, goes_on}
 use Rattle.row_core.proofs.merging.less.Goals as goal
 

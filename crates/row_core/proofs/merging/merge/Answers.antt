@@ -1,10 +1,5 @@
 -- One variable after another.
-use Rattle.std.proofs.Common.{◌≡◌, ℤ, ◌++◌, true, false, drop, refl, sym, ap, ap₂, ◌∙◌, to_z, of_z}
-use Rattle.std.specs.Int.{w128}
-use Rattle.exact_num.specs.Range.{all_fit}
-use Rattle.exact_num.proofs.RangeLaws.{back_in_range}
-use Rattle.exact_num.proofs.StepLaws.{all_fit-nil}
-use Rattle.row_core.specs.Combined.{Beside, beside, less, less_formed, lessened, all_less_formed, entry_unless_zero}
+use Rattle.row_core.proofs.Common.{◌≡◌, ℤ, ◌++◌, true, false, drop, refl, sym, ap, ap₂, ◌∙◌, to_z, of_z, w128, all_fit, back_in_range, all_fit-nil, Beside, beside, less, less_formed, lessened, all_less_formed, entry_unless_zero}
 use Rattle.row_core.proofs.BesideLaws.{lessened-step, formed-step, formed-stop}
 use Rattle.row_core.proofs.merging.merge.Goals as goal
 

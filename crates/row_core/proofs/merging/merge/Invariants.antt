@@ -1,7 +1,5 @@
 -- What is made so far and what the rest makes are what all makes; what is formed fits so far.
-use Rattle.std.proofs.Common.{◌≡◌, ◌++◌, drop, length}
-use Rattle.exact_num.specs.Range.{all_fit}
-use Rattle.row_core.specs.Combined.{beside, lessened, all_less_formed}
+use Rattle.row_core.proofs.Common.{◌≡◌, ◌++◌, drop, length, all_fit, beside, lessened, all_less_formed}
 use Rattle.row_core.proofs.merging.merge.Given as goal
 
 abbrev pub invariant-loop-next : goal.invariant-loop-next

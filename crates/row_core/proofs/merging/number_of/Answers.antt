@@ -1,8 +1,5 @@
 -- What is found is the number, and it fits.
-use Rattle.std.proofs.Common.{◌≡◌, sym, ap, ◌∙◌, subst}
-use Rattle.exact_num.specs.Range.{InRange}
-use Rattle.exact_num.proofs.RangeLaws.{back_in_range}
-use Rattle.row_core.specs.Rows.{number_at}
+use Rattle.row_core.proofs.Common.{◌≡◌, sym, ap, ◌∙◌, subst, InRange, back_in_range, number_at}
 use Rattle.row_core.proofs.PlanValueLaws.{number_or_zero, number_at-value, number_at-fits}
 use Rattle.row_core.proofs.merging.number_of.Goals as goal
 

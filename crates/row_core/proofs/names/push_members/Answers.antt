@@ -1,5 +1,4 @@
-use Rattle.std.proofs.Common.{arith, ◌<◌, length}
-use Rattle.row_core.specs.NameTexts.{member}
+use Rattle.row_core.proofs.Common.{arith, ◌<◌, length, member}
 use Rattle.row_core.proofs.NameLaws.{one-more}
 use Rattle.row_core.proofs.names.push_members.Goals as goal
 

@@ -1,6 +1,4 @@
-use Rattle.std.proofs.Common.{◌≡◌, ◌++◌, map, take}
-use Rattle.std.specs.List.{join_with_byte}
-use Rattle.row_core.specs.NameTexts.{member}
+use Rattle.row_core.proofs.Common.{◌≡◌, ◌++◌, map, take, join_with_byte, member}
 use Rattle.row_core.proofs.names.push_members.Given as goal
 
 -- the members so far stand there

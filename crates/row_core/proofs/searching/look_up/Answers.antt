@@ -1,6 +1,5 @@
 -- The search ends at the key, or between the keys around it.
-use Rattle.std.proofs.Common.{rules, sym}
-use Rattle.std.proofs.lemmas.List.Sorted.{answers_always}
+use Rattle.row_core.proofs.Common.{rules, sym, answers_always}
 use Rattle.row_core.proofs.LookUpLaws.{ascends-searchable, value_at-found, value_at-parted}
 use Rattle.row_core.proofs.searching.look_up.Goals as goal
 

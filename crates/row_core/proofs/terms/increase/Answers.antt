@@ -1,10 +1,4 @@
-use Rattle.std.proofs.Common.{◌≡◌, map, get_or, set, ap, ap₂, ◌∙◌}
-use Rattle.std.proofs.lemmas.List.{get_or_default, map-set}
-use Rattle.exact_num.specs.Rational.{Rational, plus}
-use Rattle.exact_num.specs.Value.{value_of}
-use Rattle.row_core.specs.declared.terms.Term.{Term}
-use Rattle.row_core.specs.declared.Var.{Var}
-use Rattle.row_core.specs.TermViews.{seen}
+use Rattle.row_core.proofs.Common.{◌≡◌, map, get_or, set, ap, ap₂, ◌∙◌, get_or_default, map-set, Rational, plus, value_of, Term, Var, seen}
 use Rattle.row_core.proofs.terms.increase.Goals as goal
 
 pub returns-clause-added : goal.returns-clause-added

@@ -1,9 +1,4 @@
-use Rattle.std.proofs.Common.{◌≡◌, ℕ, suc, ◌-◌, ◌<◌, length, get_or, sym, ap, ◌∙◌, subst, arith}
-use Rattle.std.specs.declared.cmp.Ordering.TheVariants.{Less, Greater}
-use Rattle.std.proofs.lemmas.List.{get_or_default}
-use Rattle.row_core.specs.declared.terms.Term.{Term}
-use Rattle.row_core.specs.Order.{var_cmp}
-use Rattle.row_core.specs.TermPlaces.{AreBefore}
+use Rattle.row_core.proofs.Common.{◌≡◌, ℕ, suc, ◌-◌, ◌<◌, length, get_or, sym, ap, ◌∙◌, subst, arith, Less, Greater, get_or_default, Term, var_cmp, AreBefore}
 use Rattle.row_core.proofs.Orders.{var_cmp_exact}
 use Rattle.row_core.proofs.TermLaws.{AreBefore-same, AreBefore-last}
 use Rattle.row_core.proofs.terms.position_of.Goals as goal

@@ -1,8 +1,5 @@
 -- The loop goes back from the end past terms that are after the variable.
-use Rattle.std.proofs.Common.{◌≡◌, ◌<◌, ◌≤◌, length, get_or}
-use Rattle.std.specs.declared.cmp.Ordering.TheVariants.{Greater}
-use Rattle.row_core.specs.declared.terms.Term.{Term}
-use Rattle.row_core.specs.Order.{var_cmp}
+use Rattle.row_core.proofs.Common.{◌≡◌, ◌<◌, ◌≤◌, length, get_or, Greater, Term, var_cmp}
 use Rattle.row_core.proofs.terms.position_of.Given as goal
 
 abbrev pub invariant-loop-end : goal.invariant-loop-end

@@ -1,13 +1,5 @@
 -- One term after another, and the right side last.
-use Rattle.std.proofs.Common.{◌≡◌, ◌+◌, ℤ, pos, true, false, ◌&&◌, drop, sym, ap, ap₂, ◌∙◌, subst, arith, to_z, of_z}
-use Rattle.std.specs.Int.{w128}
-use Rattle.std.specs.Prelude.{◌<ℤ◌}
-use Rattle.exact_num.specs.Range.{InRange, in_range}
-use Rattle.exact_num.specs.Value.{value_of}
-use Rattle.exact_num.proofs.RangeLaws.{back_in_range, in_range-yes, is_ok-false}
-use Rattle.row_core.specs.TermSteps.{widened_by_term}
-use Rattle.row_core.specs.TermViews.{seen}
-use Rattle.row_core.specs.Written.{widened}
+use Rattle.row_core.proofs.Common.{◌≡◌, ◌+◌, ℤ, pos, true, false, ◌&&◌, drop, sym, ap, ap₂, ◌∙◌, subst, arith, to_z, of_z, w128, ◌<ℤ◌, InRange, in_range, value_of, back_in_range, in_range-yes, is_ok-false, widened_by_term, seen, widened}
 use Rattle.row_core.proofs.WritingSteps.{denominators_fit, denominator_left, denominators_fit-step, denominator_left-step, denominators_fit-end}
 use Rattle.row_core.proofs.writing.denominator_of.Goals as goal
 

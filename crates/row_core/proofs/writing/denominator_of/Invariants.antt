@@ -1,10 +1,5 @@
 -- The terms so far have this common denominator, and what is formed from here on is what is left.
-use Rattle.std.proofs.Common.{◌≡◌, pos, map, drop}
-use Rattle.std.specs.Prelude.{◌<ℤ◌}
-use Rattle.exact_num.specs.Range.{InRange, all_fit}
-use Rattle.exact_num.specs.Value.{value_of}
-use Rattle.row_core.specs.TermViews.{seen}
-use Rattle.row_core.specs.Written.{kept, denominators, widened_by_each, widened_by_all}
+use Rattle.row_core.proofs.Common.{◌≡◌, pos, map, drop, ◌<ℤ◌, InRange, all_fit, value_of, seen, kept, denominators, widened_by_each, widened_by_all}
 use Rattle.row_core.proofs.writing.denominator_of.Given as goal
 
 abbrev pub invariant-loop-term : goal.invariant-loop-term

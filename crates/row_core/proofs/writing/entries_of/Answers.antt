@@ -1,12 +1,5 @@
 -- One term after another.
-use Rattle.std.proofs.Common.{◌≡◌, ◌+◌, ℤ, false, ◌++◌, ◌&&◌, drop, sym, ap, ◌∙◌, arith, to_z, of_z, append_assoc, append-nil}
-use Rattle.std.specs.Int.{w128}
-use Rattle.std.proofs.lemmas.List.{at_drop_all}
-use Rattle.std.proofs.lemmas.Result.{err_from_is_err_and}
-use Rattle.exact_num.proofs.RangeLaws.{back_in_range}
-use Rattle.exact_num.proofs.StepLaws.{all_fit-nil}
-use Rattle.row_core.specs.TermSteps.{entry_over}
-use Rattle.row_core.specs.TermViews.{seen}
+use Rattle.row_core.proofs.Common.{◌≡◌, ◌+◌, ℤ, false, ◌++◌, ◌&&◌, drop, sym, ap, ◌∙◌, arith, to_z, of_z, append_assoc, append-nil, w128, at_drop_all, err_from_is_err_and, back_in_range, all_fit-nil, entry_over, seen}
 use Rattle.row_core.proofs.WritingSteps.{entries_left, entries_fit, entries_left-step, entries_fit-step, IsStop-more}
 use Rattle.row_core.proofs.writing.entries_of.Goals as goal
 

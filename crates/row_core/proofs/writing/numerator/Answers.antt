@@ -1,9 +1,5 @@
 -- Over its own denominator a number keeps its numerator.
-use Rattle.std.proofs.Common.{◌≡◌, sym, ap, ◌∙◌, to_z}
-use Rattle.std.specs.Int.{w128}
-use Rattle.exact_num.specs.Range.{in_range}
-use Rattle.exact_num.specs.Value.{value_of}
-use Rattle.exact_num.proofs.RangeLaws.{back_in_range, true-in_range}
+use Rattle.row_core.proofs.Common.{◌≡◌, sym, ap, ◌∙◌, to_z, w128, in_range, value_of, back_in_range, true-in_range}
 use Rattle.row_core.proofs.DivisionLaws.{numerator_over-own}
 use Rattle.row_core.proofs.writing.numerator.Goals as goal
 

@@ -1,11 +1,5 @@
 -- A coefficient of 0 has no entry, and any other one's numerator is the one number formed.
-use Rattle.std.proofs.Common.{◌≡◌, ◌≢◌, pos, sym, ap, ◌∙◌, refl, to_z, of_z}
-use Rattle.std.specs.Int.{w128}
-use Rattle.exact_num.specs.Range.{in_range}
-use Rattle.exact_num.proofs.RangeLaws.{back_in_range}
-use Rattle.exact_num.proofs.StepLaws.{all_fit-nil}
-use Rattle.row_core.specs.TermViews.{seen}
-use Rattle.row_core.specs.Written.{numerator_over}
+use Rattle.row_core.proofs.Common.{◌≡◌, ◌≢◌, pos, sym, ap, ◌∙◌, refl, to_z, of_z, w128, in_range, back_in_range, all_fit-nil, seen, numerator_over}
 use Rattle.row_core.proofs.WritingSteps.{entry_over-zero, entry_over-nonzero, entries_fit, entries_fit-one}
 use Rattle.row_core.proofs.writing.push_entry.Goals as goal
 

@@ -1,8 +1,5 @@
 -- A denominator of 1 widens nothing, and neither does the common one itself.
-use Rattle.std.proofs.Common.{◌≡◌, pos, sym, ap, ◌∙◌, to_z}
-use Rattle.std.specs.Int.{w128}
-use Rattle.exact_num.specs.Range.{in_range}
-use Rattle.exact_num.proofs.RangeLaws.{back_in_range, true-in_range}
+use Rattle.row_core.proofs.Common.{◌≡◌, pos, sym, ap, ◌∙◌, to_z, w128, in_range, back_in_range, true-in_range}
 use Rattle.row_core.proofs.DivisionLaws.{widened-one, widened-own}
 use Rattle.row_core.proofs.writing.widen.Goals as goal
 

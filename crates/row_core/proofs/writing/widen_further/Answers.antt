@@ -1,13 +1,5 @@
 -- The quotient by the greatest common divisor, times the other denominator.
-use Rattle.std.proofs.Common.{◌≡◌, ℤ, pos, sym, ap, ◌∙◌, subst, ◌*ℤ◌, to_z}
-use Rattle.std.specs.Int.{w128}
-use Rattle.std.specs.Prelude.{◌<ℤ◌, IfOk, int_div}
-use Rattle.std.proofs.lemmas.Result.{IfOk-weaker}
-use Rattle.exact_num.specs.Formed.{common}
-use Rattle.exact_num.specs.Range.{InRange}
-use Rattle.exact_num.proofs.RangeLaws.{back_in_range}
-use Rattle.exact_num.proofs.RationalLaws.{common_pos}
-use Rattle.row_core.specs.Written.{widened}
+use Rattle.row_core.proofs.Common.{◌≡◌, ℤ, pos, sym, ap, ◌∙◌, subst, ◌*ℤ◌, to_z, w128, ◌<ℤ◌, IfOk, int_div, IfOk-weaker, common, InRange, back_in_range, common_pos, widened}
 use Rattle.row_core.proofs.DivisionLaws.{one-widened, widened_pos}
 use Rattle.row_core.proofs.writing.widen_further.Goals as goal
 

@@ -1,16 +1,6 @@
 -- The numbers formed are those of the definition, part by part, and the row means what its terms mean.
-use Rattle.std.proofs.Common.{◌≡◌, pos, Bool, false, ◌∷◌, map, refl, sym, ap, ap₂, ◌∙◌, subst, to_z, of_z}
-use Rattle.std.specs.Int.{w128}
-use Rattle.std.specs.Prelude.{int_div}
-use Rattle.std.proofs.lemmas.Result.{err_from_is_err_and}
-use Rattle.exact_num.specs.Range.{in_range, all_fit}
-use Rattle.exact_num.specs.Value.{value_of}
-use Rattle.exact_num.proofs.RangeLaws.{back_in_range}
+use Rattle.row_core.proofs.Common.{◌≡◌, pos, Bool, false, ◌∷◌, map, refl, sym, ap, ap₂, ◌∙◌, subst, to_z, of_z, w128, int_div, err_from_is_err_and, in_range, all_fit, value_of, back_in_range, numbers_of, variables_of, ascends, none_zero, var_cmp, seen, kept, row_divisor, entries_divided, written_right, common_denominator, cleared_entries, cleared_right, entries_over, numerator_over, written_entries, written_formed}
 use Rattle.row_core.specs.declared.place.Place.TheVariants.{Row as AtRow}
-use Rattle.row_core.specs.Numbers.{numbers_of, variables_of, ascends, none_zero}
-use Rattle.row_core.specs.Order.{var_cmp}
-use Rattle.row_core.specs.TermViews.{seen}
-use Rattle.row_core.specs.Written.{kept, row_divisor, entries_divided, written_right, common_denominator, cleared_entries, cleared_right, entries_over, numerator_over, written_entries, written_formed}
 use Rattle.row_core.proofs.DivisionLaws.{ArePositive}
 use Rattle.row_core.proofs.MeaningLaws.{written-IsMultiple, multiple-SaysTheSame, multiple-sign}
 use Rattle.row_core.proofs.RowWriting.{denominators_fit_all, denominators_stop, entries_stop, right_stops, all_parts_fit, ArePositive-seen, cleared_entries-ascend, cleared_entries-nonzero, written_entries-variables}

@@ -1,9 +1,5 @@
 -- From one entry other than 0 to the next.
-use Rattle.std.proofs.Common.{◌≡◌, ◌+◌, ◌<◌, ℤ, Some, List, length, drop, sym, ap, ◌∙◌, arith, to_z, of_z, if◌then◌else◌}
-use Rattle.std.specs.Int.{w128}
-use Rattle.exact_num.proofs.RangeLaws.{back_in_range}
-use Rattle.written_method.specs.Choices.{first_positive_from}
-use Rattle.written_method.specs.Tableaus.{line_of}
+use Rattle.simplex_core.proofs.Common.{◌≡◌, ◌+◌, ◌<◌, ℤ, Some, List, length, drop, sym, ap, ◌∙◌, arith, to_z, of_z, if◌then◌else◌, w128, back_in_range, first_positive_from, line_of}
 use Rattle.simplex_core.proofs.ChoiceLaws.{first_positive-next, first_positive-rest}
 use Rattle.simplex_core.proofs.choice.first_positive.Goals as goal
 

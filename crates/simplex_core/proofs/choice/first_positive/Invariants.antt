@@ -1,7 +1,5 @@
 -- No column so far has a positive entry.
-use Rattle.std.proofs.Common.{◌≡◌, ◌-◌, ◌≤◌, length, drop}
-use Rattle.written_method.specs.Choices.{first_positive_from}
-use Rattle.written_method.specs.Tableaus.{line_of}
+use Rattle.simplex_core.proofs.Common.{◌≡◌, ◌-◌, ◌≤◌, length, drop, first_positive_from, line_of}
 use Rattle.simplex_core.proofs.choice.first_positive.Given as goal
 
 abbrev pub invariant-loop-column : goal.invariant-loop-column

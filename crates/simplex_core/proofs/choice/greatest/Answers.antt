@@ -1,12 +1,5 @@
 -- From one entry other than 0 to the next.
-use Rattle.std.proofs.Common.{◌≡◌, ◌+◌, ◌<◌, ℕ, ℤ, pos, Option, Some, List, length, drop, sym, ap, ap₂, ◌∙◌, subst, arith, to_z, of_z, if◌then◌else◌}
-use Rattle.std.specs.Int.{w128}
-use Rattle.std.specs.Prelude.{int_lt, ◌≤ℤ◌, IfSome}
-use Rattle.std.proofs.lemmas.Int.{ints}
-use Rattle.exact_num.specs.Range.{InRange}
-use Rattle.exact_num.proofs.RangeLaws.{back_in_range}
-use Rattle.written_method.specs.Choices.{greatest_from}
-use Rattle.written_method.specs.Tableaus.{line_of}
+use Rattle.simplex_core.proofs.Common.{◌≡◌, ◌+◌, ◌<◌, ℕ, ℤ, pos, Option, Some, List, length, drop, sym, ap, ap₂, ◌∙◌, subst, arith, to_z, of_z, if◌then◌else◌, w128, int_lt, ◌≤ℤ◌, IfSome, ints, InRange, back_in_range, greatest_from, line_of}
 use Rattle.simplex_core.proofs.ChoiceLaws.{greatest-next, greatest-rest}
 use Rattle.simplex_core.proofs.choice.greatest.Goals as goal
 use Rattle.simplex_core.proofs.choice.greatest.Goals.{then-entry-best, else-entry-best}

@@ -1,9 +1,5 @@
 -- The choice so far, and the columns that are left.
-use Rattle.std.proofs.Common.{◌≡◌, ◌-◌, ◌<◌, ◌≤◌, None, pos, length, drop}
-use Rattle.std.specs.Prelude.{◌≤ℤ◌, IfSome}
-use Rattle.exact_num.specs.Range.{InRange}
-use Rattle.written_method.specs.Choices.{greatest_from}
-use Rattle.written_method.specs.Tableaus.{line_of}
+use Rattle.simplex_core.proofs.Common.{◌≡◌, ◌-◌, ◌<◌, ◌≤◌, None, pos, length, drop, ◌≤ℤ◌, IfSome, InRange, greatest_from, line_of}
 use Rattle.simplex_core.proofs.choice.greatest.Given as goal
 
 abbrev pub invariant-loop-column : goal.invariant-loop-column

@@ -1,11 +1,5 @@
 -- One right side after another.
-use Rattle.std.proofs.Common.{◌≡◌, ◌+◌, ◌<◌, ℤ, length, drop, sym, ap₂, ◌∙◌, subst, arith, to_z, of_z}
-use Rattle.std.specs.Int.{w128}
-use Rattle.exact_num.specs.Range.{InRange}
-use Rattle.exact_num.proofs.RangeLaws.{back_in_range}
-use Rattle.written_method.specs.Choices.{least_right_from}
-use Rattle.written_method.specs.Rounds.{right_sides}
-use Rattle.written_method.specs.Tableaus.{rows_of}
+use Rattle.simplex_core.proofs.Common.{◌≡◌, ◌+◌, ◌<◌, ℤ, length, drop, sym, ap₂, ◌∙◌, subst, arith, to_z, of_z, w128, InRange, back_in_range, least_right_from, right_sides, rows_of}
 use Rattle.simplex_core.proofs.ChoiceLaws.{least-takes, least-passes}
 use Rattle.simplex_core.proofs.choice.least_right.Goals as goal
 use Rattle.simplex_core.proofs.choice.least_right.Goals.{then-right-best, else-right-best}

@@ -1,8 +1,5 @@
 -- The choice so far, and the right sides that are left.
-use Rattle.std.proofs.Common.{◌≡◌, pos, drop}
-use Rattle.exact_num.specs.Range.{InRange}
-use Rattle.written_method.specs.Choices.{least_right_from}
-use Rattle.written_method.specs.Rounds.{right_sides}
+use Rattle.simplex_core.proofs.Common.{◌≡◌, pos, drop, InRange, least_right_from, right_sides}
 use Rattle.simplex_core.proofs.choice.least_right.Given as goal
 
 abbrev pub invariant-loop-row : goal.invariant-loop-row

@@ -1,13 +1,6 @@
 -- One row after another.
-use Rattle.std.proofs.Common.{◌≡◌, ◌<◌, ◌+◌, ℤ, pos, true, false, List, ℕ, Some, length, get_or, drop, sym, ap, ap₂, ◌∙◌, subst, arith, to_z, of_z}
-use Rattle.std.specs.Int.{w128}
-use Rattle.std.specs.Prelude.{int_lt}
-use Rattle.exact_num.specs.Range.{InRange}
-use Rattle.exact_num.proofs.RangeLaws.{back_in_range}
+use Rattle.simplex_core.proofs.Common.{◌≡◌, ◌<◌, ◌+◌, ℤ, pos, true, false, List, ℕ, Some, length, get_or, drop, sym, ap, ap₂, ◌∙◌, subst, arith, to_z, of_z, w128, int_lt, InRange, back_in_range, Line, entry_of, line_of, no_line, candidate_seen, chosen_seen}
 use Rattle.written_method.specs.Choices as choices
-use Rattle.written_method.specs.Lines.{Line, entry_of}
-use Rattle.written_method.specs.Tableaus.{line_of, no_line}
-use Rattle.simplex_core.specs.Views.{candidate_seen, chosen_seen}
 use Rattle.simplex_core.proofs.ChoiceLaws.{leaving-takes, leaving-passes}
 use Rattle.simplex_core.proofs.choice.leaving.Goals as goal
 use Rattle.simplex_core.proofs.choice.leaving.Goals.{then-entry-gt0, else-entry-gt0}

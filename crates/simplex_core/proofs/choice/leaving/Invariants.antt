@@ -1,7 +1,5 @@
 -- The choice so far, and the rows that are left.
-use Rattle.std.proofs.Common.{◌≡◌, None, drop}
-use Rattle.written_method.specs.Choices.{leaving_from}
-use Rattle.simplex_core.specs.Views.{chosen_seen}
+use Rattle.simplex_core.proofs.Common.{◌≡◌, None, drop, leaving_from, chosen_seen}
 use Rattle.simplex_core.proofs.choice.leaving.Given as goal
 
 abbrev pub invariant-loop-row : goal.invariant-loop-row

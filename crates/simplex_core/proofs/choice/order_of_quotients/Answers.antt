@@ -1,7 +1,5 @@
 -- Both products fit, so they compare as the quotients do.
-use Rattle.std.proofs.Common.{◌*ℤ◌, sym, ap₂, ◌∙◌}
-use Rattle.std.specs.Ordering.{int_cmp}
-use Rattle.exact_num.proofs.RangeLaws.{back_in_range}
+use Rattle.simplex_core.proofs.Common.{◌*ℤ◌, sym, ap₂, ◌∙◌, int_cmp, back_in_range}
 use Rattle.simplex_core.proofs.QuotientLaws.{order_of_quotients}
 use Rattle.simplex_core.proofs.choice.order_of_quotients.Goals as goal
 

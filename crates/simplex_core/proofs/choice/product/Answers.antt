@@ -1,10 +1,5 @@
 -- Numbers below 2^63 have a product below 2^126.
-use Rattle.std.proofs.Common.{◌*◌, ◌<◌, ◌^◌, ℤ, sym, subst, arith, ◌*ℤ◌}
-use Rattle.std.specs.Prelude.{unsigned_abs}
-use Rattle.std.proofs.lemmas.Int.{unsigned_abs-mul}
-use Rattle.std.proofs.lemmas.Nat.{mul-lt}
-use Rattle.exact_num.specs.Range.{InRange}
-use Rattle.exact_num.proofs.RangeLaws.{FitsSigned-from_InRange, narrow_is}
+use Rattle.simplex_core.proofs.Common.{◌*◌, ◌<◌, ◌^◌, ℤ, sym, subst, arith, ◌*ℤ◌, unsigned_abs, unsigned_abs-mul, mul-lt, InRange, FitsSigned-from_InRange, narrow_is}
 use Rattle.simplex_core.proofs.choice.product.Goals as goal
 
 in_range : (z : ℤ) → unsigned_abs z < 2 ^ 63 → InRange z

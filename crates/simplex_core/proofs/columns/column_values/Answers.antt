@@ -1,8 +1,5 @@
 -- One column after another.
-use Rattle.std.proofs.Common.{◌≤◌, List, length, ap, arith}
-use Rattle.std.proofs.lemmas.List.{length-append}
-use Rattle.exact_num.specs.declared.fraction.Frac.{Frac}
-use Rattle.simplex_core.specs.LastTableaus.{column_lift}
+use Rattle.simplex_core.proofs.Common.{◌≤◌, List, length, ap, arith, length-append, Frac, column_lift}
 use Rattle.simplex_core.proofs.ValueLaws.{columns-all, columns-push}
 use Rattle.simplex_core.proofs.columns.column_values.Goals as goal
 

@@ -1,6 +1,5 @@
 -- The values of the columns so far.
-use Rattle.std.proofs.Common.{◌≡◌, ◌<◌, ℕ, length}
-use Rattle.simplex_core.specs.LastTableaus.{column_lift, value_at_column}
+use Rattle.simplex_core.proofs.Common.{◌≡◌, ◌<◌, ℕ, length, column_lift, value_at_column}
 use Rattle.simplex_core.proofs.columns.column_values.Given as goal
 
 abbrev pub invariant-loop-column : goal.invariant-loop-column

@@ -1,6 +1,5 @@
 -- The rows from `row` on are known.
-use Rattle.std.proofs.Common.{◌≡◌, ◌≤◌, ℕ, None, length, get_or, drop}
-use Rattle.written_method.specs.Values.{row_of_basic}
+use Rattle.simplex_core.proofs.Common.{◌≡◌, ◌≤◌, ℕ, None, length, get_or, drop, row_of_basic}
 use Rattle.simplex_core.proofs.columns.rows_by_column.Given as goal
 
 abbrev pub invariant-loop-row : goal.invariant-loop-row

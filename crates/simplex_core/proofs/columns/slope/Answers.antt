@@ -1,8 +1,5 @@
 -- The row of a basic column is one of the tableau's, with an entry there.
-use Rattle.std.proofs.Common.{◌≡◌, Some, sym, ◌∙◌, subst}
-use Rattle.exact_num.specs.Range.{InRange}
-use Rattle.exact_num.proofs.RangeLaws.{back_in_range}
-use Rattle.written_method.specs.Values.{row_of_basic}
+use Rattle.simplex_core.proofs.Common.{◌≡◌, Some, sym, ◌∙◌, subst, InRange, back_in_range, row_of_basic}
 use Rattle.simplex_core.proofs.ValueLaws.{basic_row, nonzero_entry}
 use Rattle.simplex_core.proofs.columns.slope.Goals as goal
 

@@ -1,11 +1,5 @@
 -- From one entry other than 0 to the next.
-use Rattle.std.proofs.Common.{◌≡◌, ◌≢◌, ◌+◌, ◌<◌, ℕ, suc, pos, ℤ, Some, List, length, drop, set, sym, ap, ◌∙◌, subst, arith, to_z, of_z, if◌then◌else◌}
-use Rattle.std.specs.Int.{w128}
-use Rattle.exact_num.proofs.RangeLaws.{back_in_range}
-use Rattle.written_method.specs.Choices.{first_positive_from}
-use Rattle.std.proofs.Math.ListN.{length-set}
-use Rattle.written_method.specs.Tableaus.{Tableau, line_of, rows_of}
-use Rattle.simplex_core.specs.Kept.{IsKept}
+use Rattle.simplex_core.proofs.Common.{◌≡◌, ◌≢◌, ◌+◌, ◌<◌, ℕ, suc, pos, ℤ, Some, List, length, drop, set, sym, ap, ◌∙◌, subst, arith, to_z, of_z, if◌then◌else◌, w128, back_in_range, first_positive_from, length-set, Tableau, line_of, rows_of, IsKept}
 use Rattle.simplex_core.proofs.KeptChoiceLaws.{without-number, without-zeros, without-rest, without-all}
 use Rattle.simplex_core.proofs.ChoiceLaws.{AreZeros, first_positive-next, first_positive-rest}
 use Rattle.simplex_core.proofs.kept_choice.first_positive.Goals as goal

@@ -1,7 +1,5 @@
 -- No column so far has a positive entry.
-use Rattle.std.proofs.Common.{◌≡◌, ◌-◌, ◌≤◌, pos, length, drop, set}
-use Rattle.written_method.specs.Choices.{first_positive_from}
-use Rattle.written_method.specs.Tableaus.{line_of}
+use Rattle.simplex_core.proofs.Common.{◌≡◌, ◌-◌, ◌≤◌, pos, length, drop, set, first_positive_from, line_of}
 use Rattle.simplex_core.proofs.kept_choice.first_positive.Given as goal
 
 abbrev pub invariant-loop-column : goal.invariant-loop-column

@@ -1,11 +1,5 @@
 -- The code's number is that of the rough line.
-use Rattle.std.proofs.Common.{◌≡◌, sym, ap₂, ◌∙◌, subst, to_z, of_z}
-use Rattle.std.specs.Int.{w128}
-use Rattle.exact_num.specs.Range.{InRange}
-use Rattle.exact_num.proofs.RangeLaws.{IfOk-equal, back_in_range}
-use Rattle.written_method.specs.Lines.{entry_of, less}
-use Rattle.written_method.specs.Tableaus.{Tableau, line_of}
-use Rattle.simplex_core.specs.KeptViews.{rough_of, x0_in}
+use Rattle.simplex_core.proofs.Common.{◌≡◌, sym, ap₂, ◌∙◌, subst, to_z, of_z, w128, InRange, IfOk-equal, back_in_range, entry_of, less, Tableau, line_of, rough_of, x0_in}
 use Rattle.simplex_core.proofs.KeptChoiceLaws.{rough-right}
 use Rattle.simplex_core.proofs.kept_choice.rough_right.Goals as goal
 

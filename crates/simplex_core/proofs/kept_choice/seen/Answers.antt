@@ -1,6 +1,4 @@
-use Rattle.std.proofs.Common.{sym, ◌∙◌, subst}
-use Rattle.exact_num.specs.Range.{InRange}
-use Rattle.exact_num.proofs.RangeLaws.{back_in_range}
+use Rattle.simplex_core.proofs.Common.{sym, ◌∙◌, subst, InRange, back_in_range}
 use Rattle.simplex_core.proofs.kept_choice.seen.Goals as goal
 
 pub seen_by-requires-clause-at_x0 : goal.seen_by-requires-clause-at_x0

@@ -1,11 +1,5 @@
 -- Each size is at least what it was and what the line has.
-use Rattle.std.proofs.Common.{◌≡◌, ap, arith}
-use Rattle.std.specs.Prelude.{unsigned_abs}
-use Rattle.exact_num.proofs.RangeLaws.{back_in_range}
-use Rattle.simplex_core.specs.Widths.{late_entry}
-use Rattle.written_method.specs.Lines.{numbers_of}
-use Rattle.written_method.specs.Tableaus.{Tableau, line_of}
-use Rattle.simplex_core.specs.KeptViews.{kept_state, x0_in}
+use Rattle.simplex_core.proofs.Common.{◌≡◌, ap, arith, unsigned_abs, back_in_range, late_entry, numbers_of, Tableau, line_of, kept_state, x0_in}
 use Rattle.simplex_core.proofs.KeptSizeLaws.{late_entry-is, spread-more, AreWithin-more}
 use Rattle.simplex_core.proofs.kept_choice.seen_by.Goals as goal
 

@@ -1,9 +1,5 @@
 -- The choice so far, the rows that are left, and the greatest sizes so far.
-use Rattle.std.proofs.Common.{◌≡◌, Some, drop}
-use Rattle.written_method.specs.Choices.{leaving_from}
-use Rattle.simplex_core.specs.KeptRounds.{rough_lines, kept_leaving}
-use Rattle.simplex_core.specs.KeptViews.{kept_state, kept_basics, x0_in, AreSpread}
-use Rattle.simplex_core.specs.Views.{chosen_seen}
+use Rattle.simplex_core.proofs.Common.{◌≡◌, Some, drop, leaving_from, rough_lines, kept_leaving, kept_state, kept_basics, x0_in, AreSpread, chosen_seen}
 use Rattle.simplex_core.proofs.kept_choice.wide_leaving.Given as goal
 
 abbrev pub invariant-loop-row : goal.invariant-loop-row

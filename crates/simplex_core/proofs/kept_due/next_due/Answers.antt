@@ -1,11 +1,5 @@
 -- The row that leaves, the column that enters, and that all numbers fit.
-use Rattle.std.proofs.Common.{◌≡◌, Some, sym, ap, ◌∙◌}
-use Rattle.exact_num.proofs.RangeLaws.{back_in_range}
-use Rattle.row_core.specs.Numbers.{is_zero}
-use Rattle.written_method.specs.Tableaus.{Tableau}
-use Rattle.simplex_core.specs.KeptRounds.{kept_entering, kept_leaving}
-use Rattle.simplex_core.specs.KeptViews.{kept_state, x0_in}
-use Rattle.simplex_core.specs.Views.{candidate_seen, chosen_seen}
+use Rattle.simplex_core.proofs.Common.{◌≡◌, Some, sym, ap, ◌∙◌, back_in_range, is_zero, Tableau, kept_entering, kept_leaving, kept_state, x0_in, candidate_seen, chosen_seen}
 use Rattle.simplex_core.proofs.KeptChoiceLaws.{leaving-row}
 use Rattle.simplex_core.proofs.KeptRoundLaws.{due-from}
 use Rattle.simplex_core.proofs.kept_due.next_due.Goals as goal

@@ -1,6 +1,4 @@
-use Rattle.std.proofs.Common.{◌≡◌, arith, subst, inl, inr}
-use Rattle.std.proofs.lemmas.Bool.{cases_lt}
-use Rattle.simplex_core.specs.KeptViews.{IsPlain}
+use Rattle.simplex_core.proofs.Common.{◌≡◌, arith, subst, inl, inr, cases_lt, IsPlain}
 use Rattle.simplex_core.proofs.kept_rounds.are_plain.Goals as goal
 
 pub loop-line-preserved : goal.loop-line-preserved

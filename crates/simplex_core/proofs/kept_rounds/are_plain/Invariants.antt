@@ -1,6 +1,5 @@
 -- The lines so far are plain.
-use Rattle.std.proofs.Common.{ℕ, ◌<◌}
-use Rattle.simplex_core.specs.KeptViews.{IsPlain}
+use Rattle.simplex_core.proofs.Common.{ℕ, ◌<◌, IsPlain}
 use Rattle.simplex_core.proofs.kept_rounds.are_plain.Given as goal
 
 abbrev pub invariant-loop-line : goal.invariant-loop-line

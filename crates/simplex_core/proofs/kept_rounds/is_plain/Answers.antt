@@ -1,9 +1,4 @@
-use Rattle.std.proofs.Common.{sym, ap, ◌∙◌, subst, arith}
-use Rattle.std.specs.Prelude.{unsigned_abs}
-use Rattle.exact_num.specs.Range.{InRange}
-use Rattle.exact_num.proofs.RangeLaws.{back_in_range}
-use Rattle.written_method.specs.Lines.{numbers_of}
-use Rattle.written_method.specs.Tableaus.{line_of}
+use Rattle.simplex_core.proofs.Common.{sym, ap, ◌∙◌, subst, arith, unsigned_abs, InRange, back_in_range, numbers_of, line_of}
 use Rattle.simplex_core.proofs.KeptSizeLaws.{AreWithin-more}
 use Rattle.simplex_core.proofs.kept_rounds.is_plain.Goals as goal
 

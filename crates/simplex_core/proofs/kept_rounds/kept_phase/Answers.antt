@@ -1,15 +1,6 @@
 -- The first pivot is kept back.
-use Rattle.std.proofs.Common.{◌≡◌, ◌<◌, pos, true, length, sym, ap, ◌∙◌, subst, arith}
-use Rattle.written_method.specs.Choices.{least_right_from}
-use Rattle.written_method.specs.FirstTableau.{tableau_with}
-use Rattle.written_method.specs.Programs.{LinearProgram, program_of}
-use Rattle.written_method.specs.Rounds.{State, right_sides}
-use Rattle.written_method.specs.Tableaus.{Tableau, negated}
-use Rattle.int_tableau.specs.Counted.{Counted}
-use Rattle.simplex_core.specs.Kept.{IsKept}
+use Rattle.simplex_core.proofs.Common.{◌≡◌, ◌<◌, pos, true, length, sym, ap, ◌∙◌, subst, arith, least_right_from, tableau_with, LinearProgram, program_of, State, right_sides, Tableau, negated, Counted, IsKept, x0_in, state_seen}
 use Rattle.simplex_core.proofs.StartLaws.{IsKept-started}
-use Rattle.simplex_core.specs.KeptViews.{x0_in}
-use Rattle.simplex_core.specs.Views.{state_seen}
 use Rattle.simplex_core.proofs.KeptStartLaws.{ArePlain, first-IsFirst, end-first, start-any, start-tableau, start-row, start-lines}
 use Rattle.simplex_core.proofs.kept_rounds.kept_phase.Goals as goal
 

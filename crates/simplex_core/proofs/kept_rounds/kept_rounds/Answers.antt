@@ -1,17 +1,7 @@
 -- Each end is that of what is left.
-use Rattle.std.proofs.Common.{◌≡◌, ℕ, suc, ◌-◌, ◌<◌, refl, sym, ap, ◌∙◌, subst, arith, add-one}
+use Rattle.simplex_core.proofs.Common.{◌≡◌, ℕ, suc, ◌-◌, ◌<◌, refl, sym, ap, ◌∙◌, subst, arith, add-one, length-set, Tableau, rows_of, pivoted, without_x0, State, Counted, pivoted_once, swapped, IsNowhere, IsKept, shown_state, kept_state, second_phase, x0_in, IsOnWay, IsSecond}
 use Rattle.std.specs.Prelude.{if◌then◌else◌}
-use Rattle.std.proofs.Math.ListN.{length-set}
-use Rattle.written_method.specs.Tableaus.{Tableau, rows_of, pivoted, without_x0}
-use Rattle.written_method.specs.Rounds.{State}
-use Rattle.int_tableau.specs.Counted.{Counted, pivoted_once}
-use Rattle.int_tableau.specs.Swaps.{swapped}
-use Rattle.int_tableau.specs.Shapes.{IsNowhere}
-use Rattle.simplex_core.specs.Kept.{IsKept}
-use Rattle.simplex_core.specs.KeptRounds.{shown_state}
 use Rattle.simplex_core.specs.declared.running.Finish.TheVariants as finishes
-use Rattle.simplex_core.specs.KeptViews.{kept_state, second_phase, x0_in}
-use Rattle.simplex_core.specs.KeptEnds.{IsOnWay, IsSecond}
 use Rattle.simplex_core.proofs.KeptRoundLaws.{due-at, left-IsNowhere}
 use Rattle.simplex_core.proofs.KeptWayLaws.{way-start, way-next, way-left, way-infeasible, way-due, IsKeptEnd-last}
 use Rattle.simplex_core.proofs.kept_rounds.kept_rounds.Goals as goal

@@ -1,8 +1,5 @@
 -- The kept tableau is on the method's way.
-use Rattle.std.proofs.Common.{◌≡◌, suc}
-use Rattle.simplex_core.specs.KeptRounds.{shown_state}
-use Rattle.simplex_core.specs.KeptViews.{kept_state, x0_in}
-use Rattle.simplex_core.specs.KeptEnds.{IsOnWay}
+use Rattle.simplex_core.proofs.Common.{◌≡◌, suc, shown_state, kept_state, x0_in, IsOnWay}
 use Rattle.simplex_core.proofs.kept_rounds.kept_rounds.Given as goal
 
 abbrev pub invariant-loop-made : goal.invariant-loop-made

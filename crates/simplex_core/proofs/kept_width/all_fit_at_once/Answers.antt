@@ -1,10 +1,4 @@
-use Rattle.std.proofs.Common.{◌≡◌, ◌<◌, ◌*◌, ◌+◌, ◌^◌, ◌∙◌, ap, subst}
-use Rattle.std.specs.Prelude.{unsigned_abs}
-use Rattle.exact_num.proofs.RangeLaws.{back_in_range}
-use borrow.Author.Tests.{ltb-true}
-use Rattle.written_method.specs.Lines.{entry_of}
-use Rattle.written_method.specs.Tableaus.{Tableau, line_of}
-use Rattle.simplex_core.specs.KeptViews.{x0_in}
+use Rattle.simplex_core.proofs.Common.{◌≡◌, ◌<◌, ◌*◌, ◌+◌, ◌^◌, ◌∙◌, ap, subst, unsigned_abs, back_in_range, ltb-true, entry_of, Tableau, line_of, x0_in}
 use Rattle.simplex_core.proofs.KeptSizeLaws.{spread-FitsPivot}
 use Rattle.simplex_core.proofs.kept_width.all_fit_at_once.Goals as goal
 

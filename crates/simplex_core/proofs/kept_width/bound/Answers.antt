@@ -1,10 +1,4 @@
-use Rattle.std.proofs.Common.{◌≡◌, ℕ, ◌+◌, ◌*◌, ◌∙◌, sym, ap, subst, arith}
-use Rattle.std.specs.Prelude.{unsigned_abs}
-use Rattle.exact_num.specs.Range.{InRange}
-use Rattle.exact_num.proofs.RangeLaws.{back_in_range}
-use Rattle.written_method.specs.Lines.{entry_of, numbers_of}
-use Rattle.written_method.specs.Tableaus.{Tableau, line_of}
-use Rattle.simplex_core.specs.KeptViews.{x0_in}
+use Rattle.simplex_core.proofs.Common.{◌≡◌, ℕ, ◌+◌, ◌*◌, ◌∙◌, sym, ap, subst, arith, unsigned_abs, InRange, back_in_range, entry_of, numbers_of, Tableau, line_of, x0_in}
 use Rattle.simplex_core.proofs.KeptSizeLaws.{late_size-home, late_size-other, IfSome-weaker, AllWithin-of}
 use Rattle.simplex_core.proofs.kept_width.bound.Goals as goal
 

@@ -1,6 +1,4 @@
-use Rattle.std.proofs.Common.{◌<◌, length, arith}
-use Rattle.written_method.specs.Tableaus.{Tableau, rows_of}
-use Rattle.simplex_core.specs.KeptViews.{x0_in}
+use Rattle.simplex_core.proofs.Common.{◌<◌, length, arith, Tableau, rows_of, x0_in}
 use Rattle.simplex_core.proofs.KeptSizeLaws.{narrow-FitsPivot}
 use Rattle.simplex_core.proofs.kept_width.each_fits.Goals as goal
 

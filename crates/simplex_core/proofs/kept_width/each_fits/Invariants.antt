@@ -1,6 +1,5 @@
 -- The lines so far are narrow.
-use Rattle.std.proofs.Common.{ℕ, ◌<◌, ◌≢◌}
-use Rattle.simplex_core.specs.KeptViews.{IsLineNarrow, x0_in}
+use Rattle.simplex_core.proofs.Common.{ℕ, ◌<◌, ◌≢◌, IsLineNarrow, x0_in}
 use Rattle.simplex_core.proofs.kept_width.each_fits.Given as goal
 
 abbrev pub invariant-loop-line : goal.invariant-loop-line

@@ -1,10 +1,4 @@
-use Rattle.std.proofs.Common.{◌≡◌, ◌<◌, ◌^◌, ◌∙◌, sym, ap, arith}
-use Rattle.std.specs.Prelude.{unsigned_abs}
-use Rattle.exact_num.proofs.RangeLaws.{back_in_range}
-use borrow.Author.Tests.{ltb-true}
-use Rattle.simplex_core.specs.Widths.{late_size, late_entry}
-use Rattle.written_method.specs.Tableaus.{Tableau}
-use Rattle.simplex_core.specs.KeptViews.{kept_state, size_in, x0_in}
+use Rattle.simplex_core.proofs.Common.{◌≡◌, ◌<◌, ◌^◌, ◌∙◌, sym, ap, arith, unsigned_abs, back_in_range, ltb-true, late_size, late_entry, Tableau, kept_state, size_in, x0_in}
 use Rattle.simplex_core.proofs.KeptSizeLaws.{late_entry-is, narrow-by}
 use Rattle.simplex_core.proofs.kept_width.line_fits.Goals as goal
 

@@ -1,7 +1,5 @@
 -- The rows, then the row of z and that of w.
-use Rattle.std.proofs.Common.{◌≡◌, ◌+◌, suc, length, subst, arith}
-use Rattle.written_method.specs.Tableaus.{Tableau, rows_of}
-use Rattle.simplex_core.specs.KeptViews.{AreSpread}
+use Rattle.simplex_core.proofs.Common.{◌≡◌, ◌+◌, suc, length, subst, arith, Tableau, rows_of, AreSpread}
 use Rattle.simplex_core.proofs.kept_width.with_last.Goals as goal
 
 pub returns : goal.returns

@@ -1,13 +1,5 @@
 -- One row after another.
-use Rattle.std.proofs.Common.{◌≡◌, ◌+◌, ℤ, sym, ap, ◌∙◌, subst, to_z, of_z}
-use Rattle.std.specs.Int.{w128}
-use Rattle.exact_num.specs.Range.{InRange}
-use Rattle.exact_num.specs.Rational.{lowest}
-use Rattle.exact_num.specs.Value.{value_of}
-use Rattle.exact_num.proofs.RangeLaws.{back_in_range}
-use Rattle.written_method.specs.FirstTableau.{as_most}
-use Rattle.written_method.specs.Lines.{Line, entry_of}
-use Rattle.written_method.specs.Tableaus.{line_of}
+use Rattle.simplex_core.proofs.Common.{◌≡◌, ◌+◌, ℤ, sym, ap, ◌∙◌, subst, to_z, of_z, w128, InRange, lowest, value_of, back_in_range, as_most, Line, entry_of, line_of}
 use Rattle.simplex_core.proofs.ValueLaws.{multipliers-step}
 use Rattle.simplex_core.proofs.multipliers.by_slack.Goals as goal
 

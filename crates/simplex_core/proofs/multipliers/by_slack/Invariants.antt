@@ -1,9 +1,5 @@
 -- The multipliers so far, and those of the rows that are left.
-use Rattle.std.proofs.Common.{◌≡◌, ◌+◌, ◌++◌, map, drop}
-use Rattle.exact_num.specs.Value.{value_of}
-use Rattle.written_method.specs.Programs.{inequality_of}
-use Rattle.written_method.specs.Tableaus.{line_of}
-use Rattle.written_method.specs.Values.{multipliers_from}
+use Rattle.simplex_core.proofs.Common.{◌≡◌, ◌+◌, ◌++◌, map, drop, value_of, inequality_of, line_of, multipliers_from}
 use Rattle.simplex_core.proofs.multipliers.by_slack.Given as goal
 
 abbrev pub invariant-loop-position : goal.invariant-loop-position

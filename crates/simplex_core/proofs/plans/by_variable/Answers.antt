@@ -1,14 +1,6 @@
 -- One variable after another.
-use Rattle.std.proofs.Common.{◌+◌, ◌≤◌, Some, List, get_or, sym, ap, ◌∙◌, subst, arith}
-use Rattle.std.specs.Prelude.{IsTrue}
-use Rattle.std.proofs.lemmas.List.{get_or_default}
-use Rattle.row_core.specs.declared.Var.{Var}
-use Rattle.row_core.specs.declared.place.Place.{Place}
-use Rattle.row_core.specs.Numbers.{ascends}
+use Rattle.simplex_core.proofs.Common.{◌+◌, ◌≤◌, Some, List, get_or, sym, ap, ◌∙◌, subst, arith, IsTrue, get_or_default, Var, Place, ascends, width_of, is_split, place_of, value_at_column}
 use Rattle.row_core.specs.Order.{var_cmp}
-use Rattle.written_method.specs.FirstTableau.{width_of}
-use Rattle.written_method.specs.Programs.{is_split}
-use Rattle.simplex_core.specs.LastTableaus.{place_of, value_at_column}
 use Rattle.simplex_core.proofs.ValueLaws.{IsLifted-columns, IsLifted-end, IsLifted-next, IsLifted-stop, after_columns-is, no_variable}
 use Rattle.simplex_core.proofs.plans.by_variable.Goals as goal
 

@@ -1,5 +1,4 @@
-use Rattle.std.proofs.Common.{sym}
-use Rattle.simplex_core.specs.LastTableaus.{value_at_column}
+use Rattle.simplex_core.proofs.Common.{sym, value_at_column}
 use Rattle.simplex_core.proofs.ValueLaws.{formed-none}
 use Rattle.simplex_core.proofs.plans.variable_value.Goals as goal
 

@@ -1,8 +1,5 @@
 -- Phase 1 by the kept rows, or from the first state on.
-use Rattle.std.proofs.Common.{refl, sym, subst}
-use Rattle.written_method.specs.FirstTableau.{first_state}
-use Rattle.written_method.specs.Programs.{program_of}
-use Rattle.simplex_core.specs.KeptEnds.{IsSecond}
+use Rattle.simplex_core.proofs.Common.{refl, sym, subst, first_state, program_of, IsSecond}
 use Rattle.simplex_core.proofs.KeptWayLaws.{second-self}
 use Rattle.simplex_core.proofs.running.begin.Goals as goal
 

@@ -1,17 +1,6 @@
 -- Each end is that of what is left.
-use Rattle.std.proofs.Common.{◌≡◌, ◌≢◌, ℕ, suc, ◌+◌, ◌-◌, ◌≤◌, sym, ap, ◌∙◌, subst, arith}
-use Rattle.std.proofs.lemmas.Result.{err_from_is_err_and}
-use Rattle.exact_num.specs.Range.{all_fit}
-use Rattle.written_method.specs.FirstTableau.{first_state}
-use Rattle.written_method.specs.Programs.{LinearProgram, program_of}
-use Rattle.written_method.specs.Rounds.{State, after, step_of}
-use Rattle.written_method.specs.Runs.{Ended, answer}
-use Rattle.written_method.proofs.ReachedLaws.{IsReached, IsReached-after, IsReached-first}
-use Rattle.written_method.proofs.RunLaws.{answer-due, answer-no_column, answer-no_row, answer-pivot, answer-wide}
+use Rattle.simplex_core.proofs.Common.{◌≡◌, ◌≢◌, ℕ, suc, ◌+◌, ◌-◌, ◌≤◌, sym, ap, ◌∙◌, subst, arith, err_from_is_err_and, all_fit, first_state, LinearProgram, program_of, State, after, step_of, Ended, answer, IsReached, IsReached-after, IsReached-first, answer-due, answer-no_column, answer-no_row, answer-pivot, answer-wide, IsSecond, IsRanOut, state_seen}
 use Rattle.simplex_core.specs.Begun.{IsBegun}
-use Rattle.simplex_core.specs.KeptEnds.{IsSecond}
-use Rattle.simplex_core.specs.Runs.{IsRanOut}
-use Rattle.simplex_core.specs.Views.{state_seen}
 use Rattle.simplex_core.proofs.KeptReachedLaws.{advanced-IsReached}
 use Rattle.simplex_core.proofs.StepLaws.{IsRanOut-from, degenerate-bound, reached-IsMove}
 use Rattle.simplex_core.proofs.running.run.Goals as goal

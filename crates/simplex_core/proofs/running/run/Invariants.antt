@@ -1,10 +1,5 @@
 -- The answer is that from here with the pivots that are left.
-use Rattle.std.proofs.Common.{◌≡◌, ◌-◌, ◌≤◌}
-use Rattle.written_method.specs.FirstTableau.{first_state}
-use Rattle.written_method.specs.Programs.{program_of}
-use Rattle.written_method.specs.Runs.{answer}
-use Rattle.written_method.proofs.ReachedLaws.{IsReached}
-use Rattle.simplex_core.specs.Views.{state_seen}
+use Rattle.simplex_core.proofs.Common.{◌≡◌, ◌-◌, ◌≤◌, first_state, program_of, answer, IsReached, state_seen}
 use Rattle.simplex_core.proofs.running.run.Given as goal
 
 abbrev pub invariant-rounds : goal.invariant-rounds

@@ -1,11 +1,6 @@
 -- One row after another.
-use Rattle.std.proofs.Common.{◌<◌, ◌+◌, Option, Some, length, drop, sym, ap, ◌∙◌, arith}
-use Rattle.written_method.specs.Choices.{leaving_from}
-use Rattle.written_method.specs.Tableaus.{Tableau}
-use Rattle.simplex_core.specs.KeptRounds.{rough_lines}
+use Rattle.simplex_core.proofs.Common.{◌<◌, ◌+◌, Option, Some, length, drop, sym, ap, ◌∙◌, arith, leaving_from, Tableau, rough_lines, kept_state, kept_basics, x0_in, short_chosen_seen, short_candidate_seen}
 use Rattle.simplex_core.specs.declared.candidate.ShortCandidate.{ShortCandidate}
-use Rattle.simplex_core.specs.KeptViews.{kept_state, kept_basics, x0_in}
-use Rattle.simplex_core.specs.ShortViews.{short_chosen_seen, short_candidate_seen}
 use Rattle.simplex_core.proofs.KeptChoiceLaws.{leaving-took, leaving-passed}
 use Rattle.simplex_core.proofs.short_choice.leaving.Goals as goal
 use Rattle.simplex_core.proofs.short_choice.leaving.Goals.{in-Some-candidate, in_default-candidate}

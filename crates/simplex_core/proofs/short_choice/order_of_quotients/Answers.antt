@@ -1,8 +1,5 @@
 -- Both products fit, so they compare as the quotients do.
-use Rattle.std.proofs.Common.{◌*ℤ◌, sym, ap₂, ◌∙◌}
-use Rattle.std.specs.Ordering.{int_cmp}
-use Rattle.exact_num.proofs.RangeLaws.{back_in_range}
-use Rattle.int_tableau.proofs.NarrowLaws.{back_narrow}
+use Rattle.simplex_core.proofs.Common.{◌*ℤ◌, sym, ap₂, ◌∙◌, int_cmp, back_in_range, back_narrow}
 use Rattle.simplex_core.proofs.QuotientLaws.{order_of_quotients}
 use Rattle.simplex_core.proofs.short_choice.order_of_quotients.Goals as goal
 

@@ -1,9 +1,5 @@
 -- Numbers below 2^63 have a product below 2^126.
-use Rattle.std.proofs.Common.{sym, ap₂, ◌∙◌, subst, ◌*ℤ◌, to_z, of_z}
-use Rattle.std.specs.Int.{w128}
-use Rattle.exact_num.specs.Range.{InRange}
-use Rattle.exact_num.proofs.RangeLaws.{back_in_range}
-use Rattle.int_tableau.proofs.NarrowLaws.{back_widened}
+use Rattle.simplex_core.proofs.Common.{sym, ap₂, ◌∙◌, subst, ◌*ℤ◌, to_z, of_z, w128, InRange, back_in_range, back_widened}
 use Rattle.int_tableau.proofs.ProductLaws.{product_below, in_range_below}
 use Rattle.simplex_core.proofs.short_choice.product.Goals as goal
 

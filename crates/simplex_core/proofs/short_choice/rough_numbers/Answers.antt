@@ -1,9 +1,5 @@
 -- The code's numbers are those of the rough line.
-use Rattle.std.proofs.Common.{◌≡◌, ℤ, ap₂, ◌∙◌, to_z, of_z}
-use Rattle.std.specs.Int.{w64}
-use Rattle.written_method.specs.Lines.{less}
-use Rattle.written_method.specs.Tableaus.{Tableau}
-use Rattle.int_tableau.proofs.NarrowLaws.{back_narrow}
+use Rattle.simplex_core.proofs.Common.{◌≡◌, ℤ, ap₂, ◌∙◌, to_z, of_z, w64, less, Tableau, back_narrow}
 use Rattle.simplex_core.proofs.ShortLaws.{home-rough, other-entry, other-right, other-last}
 use Rattle.simplex_core.proofs.short_choice.rough_numbers.Goals as goal
 

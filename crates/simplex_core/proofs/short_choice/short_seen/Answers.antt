@@ -1,6 +1,4 @@
-use Rattle.std.proofs.Common.{sym, ◌∙◌, subst}
-use Rattle.exact_num.specs.Range.{InRange}
-use Rattle.int_tableau.proofs.NarrowLaws.{back_widened, narrow_fits}
+use Rattle.simplex_core.proofs.Common.{sym, ◌∙◌, subst, InRange, back_widened, narrow_fits}
 use Rattle.simplex_core.proofs.short_choice.short_seen.Goals as goal
 
 pub seen_by-requires-clause-at_x0 : goal.seen_by-requires-clause-at_x0

@@ -1,8 +1,5 @@
-use Rattle.std.proofs.Common.{refl, ap, ◌∙◌}
-use Rattle.written_method.specs.Programs.{LinearProgram, program_of}
+use Rattle.simplex_core.proofs.Common.{refl, ap, ◌∙◌, LinearProgram, program_of, outcome_of, ending_seen, state_seen}
 use Rattle.written_method.specs.Runs as runs
-use Rattle.written_method.specs.Solved.{outcome_of}
-use Rattle.simplex_core.specs.Views.{ending_seen, state_seen}
 use Rattle.simplex_core.proofs.OutcomeLaws.{outcome-none}
 use Rattle.simplex_core.proofs.solving.end_of.Goals as goal
 

@@ -1,9 +1,6 @@
 -- No number is formed that could not fit.
-use Rattle.std.proofs.Common.{refl, sym, ap₂, ◌∙◌}
-use Rattle.written_method.specs.Programs.{LinearProgram, program_of}
+use Rattle.simplex_core.proofs.Common.{refl, sym, ap₂, ◌∙◌, LinearProgram, program_of, IsInfeasible, state_seen}
 use Rattle.written_method.specs.Runs as runs
-use Rattle.written_method.specs.Solved.{IsInfeasible}
-use Rattle.simplex_core.specs.Views.{state_seen}
 use Rattle.simplex_core.proofs.OutcomeLaws.{outcome-none}
 use Rattle.simplex_core.proofs.solving.infeasible.Goals as goal
 

@@ -1,12 +1,6 @@
 -- The values' steps all fit, or the first that doesn't is the stop.
-use Rattle.std.proofs.Common.{List, sym, ap, ap₂, ◌∙◌}
-use Rattle.std.proofs.lemmas.Result.{err_from_is_err_and}
-use Rattle.exact_num.specs.Rational.{Rational}
-use Rattle.row_core.specs.declared.Var.{Var}
-use Rattle.written_method.specs.Programs.{LinearProgram, program_of}
+use Rattle.simplex_core.proofs.Common.{List, sym, ap, ap₂, ◌∙◌, err_from_is_err_and, Rational, Var, LinearProgram, program_of, Outcome, IsOptimal, optimal_multipliers, values_of, state_seen}
 use Rattle.written_method.specs.Runs as runs
-use Rattle.written_method.specs.Solved.{Outcome, IsOptimal, optimal_multipliers, values_of}
-use Rattle.simplex_core.specs.Views.{state_seen}
 use Rattle.simplex_core.proofs.OutcomeLaws.{first-IsHalt, outcome-fits}
 use Rattle.simplex_core.proofs.solving.optimal.Goals as goal
 

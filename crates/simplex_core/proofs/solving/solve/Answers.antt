@@ -1,12 +1,5 @@
 -- The rounds and their end are those of the method; what an end means follows from it.
-use Rattle.std.proofs.Common.{◌≡◌, sym, subst}
-use Rattle.std.specs.Prelude.{IfOk, IfErr}
-use Rattle.std.proofs.lemmas.Result.{IfOk-weaker, err_from_is_err_and}
-use Rattle.written_method.specs.Programs.{LinearProgram, program_of}
-use Rattle.written_method.specs.Runs.{Answer}
-use Rattle.written_method.specs.Solved.{outcome_of, solved}
-use Rattle.simplex_core.specs.Outcomes.{IsHalt, IsProved, outcome_seen}
-use Rattle.simplex_core.specs.Views.{ending_seen, state_seen}
+use Rattle.simplex_core.proofs.Common.{◌≡◌, sym, subst, IfOk, IfErr, IfOk-weaker, err_from_is_err_and, LinearProgram, program_of, Answer, outcome_of, solved, IsHalt, IsProved, outcome_seen, ending_seen, state_seen}
 use Rattle.simplex_core.proofs.OutcomeLaws.{ended-IsEnding, ran_out-IsHalt, solved-IsProved}
 use Rattle.simplex_core.proofs.solving.solve.Goals as goal
 

@@ -1,13 +1,5 @@
 -- The columns that were read are those of the last tableau.
-use Rattle.std.proofs.Common.{◌≡◌, None, List, subst}
-use Rattle.std.specs.Prelude.{IfErr, IfOk, OnOk}
-use Rattle.exact_num.specs.Rational.{Rational}
-use Rattle.exact_num.specs.Steps.{Step, first_wide}
-use Rattle.row_core.specs.declared.Var.{Var}
-use Rattle.row_core.specs.declared.place.Place.{Place}
-use Rattle.written_method.specs.Programs.{LinearProgram, program_of}
-use Rattle.simplex_core.specs.LastTableaus.{place_of}
-use Rattle.simplex_core.specs.Runs.{IsFirst}
+use Rattle.simplex_core.proofs.Common.{◌≡◌, None, List, subst, IfErr, IfOk, OnOk, Rational, Step, first_wide, Var, Place, LinearProgram, program_of, place_of, IsFirst}
 use Rattle.simplex_core.specs.declared.plans.Lift.TheVariants as lifts
 use Rattle.simplex_core.proofs.ValueLaws.{lifted-steps, lifted-values}
 use Rattle.simplex_core.proofs.solving.values.Goals as goal

@@ -1,9 +1,6 @@
 -- Ten fields, a value, and the place of the name or none.
-use Rattle.std.proofs.Common.{◌≡◌, ◌∙◌, List, ℕ, length, subst, sym}
-use Rattle.csv.specs.Records.{fields_of}
-use Rattle.exact_num.specs.Rational.{Rational}
+use Rattle.solver_answers.proofs.Common.{◌≡◌, ◌∙◌, List, ℕ, length, subst, sym, fields_of, Rational, Fields, HasValue}
 use Rattle.exact_num.specs.Value.{value_of}
-use Rattle.plan_files.specs.Files.{Fields, HasValue}
 use Rattle.solver_answers.proofs.tables.found_in_record.Goals as goal
 
 pub returns-in-Some : goal.returns-in-Some

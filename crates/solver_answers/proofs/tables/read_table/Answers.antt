@@ -1,11 +1,5 @@
 -- Record by record.
-use Rattle.std.proofs.Common.{false, length, true}
-use Rattle.std.proofs.lemmas.List.{length-map}
-use Rattle.csv.specs.Records.{fields_of}
-use Rattle.plan_files.specs.Answers.{variable_names}
-use Rattle.plan_files.specs.Files.{Fields, records_of}
-use Rattle.plan_files.specs.Reading.{IsNext}
-use Rattle.plan_files.specs.Records.{variable_fields}
+use Rattle.solver_answers.proofs.Common.{false, length, true, length-map, fields_of, variable_names, Fields, records_of, IsNext, variable_fields}
 use Rattle.solver_answers.proofs.TableLaws.{all_read, begun, broken_at, goes_unless_wrong, no_header, one_more}
 use Rattle.solver_answers.proofs.tables.read_table.Goals as goal
 

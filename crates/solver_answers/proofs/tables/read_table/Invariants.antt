@@ -1,7 +1,5 @@
 -- The records so far.
-use Rattle.std.proofs.Common.{length}
-use Rattle.plan_files.specs.Answers.{variable_names}
-use Rattle.plan_files.specs.Files.{records_of}
+use Rattle.solver_answers.proofs.Common.{length, variable_names, records_of}
 use Rattle.solver_answers.proofs.TableLaws.{IsSoFar}
 use Rattle.solver_answers.proofs.tables.read_table.Given as goal
 

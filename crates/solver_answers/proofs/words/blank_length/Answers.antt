@@ -1,8 +1,5 @@
 -- The loop ends at the first byte that is no blank, or at the end.
-use Rattle.std.proofs.Common.{◌≡◌, ℕ, ◌<◌, ◌∙◌, true, get_or, length, sym, arith}
-use Rattle.std.proofs.lemmas.List.Sums.{prefix_len_is}
-use Rattle.solver_answers.specs.Words.{is_blank}
-use borrow.Author.Count.{below_more}
+use Rattle.solver_answers.proofs.Common.{◌≡◌, ℕ, ◌<◌, ◌∙◌, true, get_or, length, sym, arith, prefix_len_is, is_blank, below_more}
 use Rattle.solver_answers.proofs.words.blank_length.Goals as goal
 
 pub loop-i-preserved : goal.loop-i-preserved

@@ -1,6 +1,5 @@
 -- No byte before this one is anything but a blank.
-use Rattle.std.proofs.Common.{◌≡◌, ℕ, ◌<◌, true, get_or}
-use Rattle.solver_answers.specs.Words.{is_blank}
+use Rattle.solver_answers.proofs.Common.{◌≡◌, ℕ, ◌<◌, true, get_or, is_blank}
 use Rattle.solver_answers.proofs.words.blank_length.Given as goal
 
 abbrev pub invariant-loop-i : goal.invariant-loop-i

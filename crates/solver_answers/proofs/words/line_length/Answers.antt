@@ -1,8 +1,5 @@
 -- The loop ends at the first line feed, or at the end.
-use Rattle.std.proofs.Common.{◌≡◌, ℕ, ◌<◌, false, get_or, length, sym, arith, eq-eqb, ne_eqb}
-use Rattle.std.proofs.lemmas.List.Sums.{position_or_len_is}
-use Rattle.mps_meaning.specs.Lines.{ends_line}
-use borrow.Author.Count.{below_more}
+use Rattle.solver_answers.proofs.Common.{◌≡◌, ℕ, ◌<◌, false, get_or, length, sym, arith, eq-eqb, ne_eqb, position_or_len_is, ends_line, below_more}
 use Rattle.solver_answers.proofs.words.line_length.Goals as goal
 
 pub loop-i-preserved : goal.loop-i-preserved

@@ -1,6 +1,5 @@
 -- No byte before this one is a line feed.
-use Rattle.std.proofs.Common.{◌≡◌, ℕ, ◌<◌, false, get_or}
-use Rattle.mps_meaning.specs.Lines.{ends_line}
+use Rattle.solver_answers.proofs.Common.{◌≡◌, ℕ, ◌<◌, false, get_or, ends_line}
 use Rattle.solver_answers.proofs.words.line_length.Given as goal
 
 abbrev pub invariant-loop-i : goal.invariant-loop-i

@@ -1,7 +1,5 @@
 -- The line ends at its line feed, or with the text.
-use Rattle.std.proofs.Common.{◌+◌, ◌∙◌, length, sym}
-use Rattle.std.proofs.lemmas.Bool.{eqb-false}
-use Rattle.std.proofs.lemmas.List.{take_rest}
+use Rattle.solver_answers.proofs.Common.{◌+◌, ◌∙◌, length, sym, eqb-false, take_rest}
 use Rattle.solver_answers.proofs.WordLaws.{first_line, last_line}
 use Rattle.solver_answers.proofs.words.split_line.Goals as goal
 

@@ -1,8 +1,5 @@
 -- The first word stands after the blanks, before the next blank or the end.
-use Rattle.std.proofs.Common.{◌∙◌, ◌<◌, ◌∷◌, List, ℕ, drop, length, sym, ap, arith, eqb-true}
-use Rattle.std.proofs.lemmas.Bool.{eqb-false}
-use Rattle.std.proofs.lemmas.List.{nil_from_length}
-use Rattle.solver_answers.specs.Words.{Word, words}
+use Rattle.solver_answers.proofs.Common.{◌∙◌, ◌<◌, ◌∷◌, List, ℕ, drop, length, sym, ap, arith, eqb-true, eqb-false, nil_from_length, Word, words}
 use Rattle.solver_answers.proofs.WordLaws.{after_all_blanks, first_word, no_words, word_begins}
 use Rattle.solver_answers.proofs.words.split_word.Goals as goal
 

@@ -1,8 +1,5 @@
 -- The loop ends at the first blank, or at the end.
-use Rattle.std.proofs.Common.{◌≡◌, ℕ, ◌<◌, ◌∙◌, false, get_or, length, sym, arith}
-use Rattle.std.proofs.lemmas.List.Sums.{position_or_len_is}
-use Rattle.solver_answers.specs.Words.{is_blank}
-use borrow.Author.Count.{below_more}
+use Rattle.solver_answers.proofs.Common.{◌≡◌, ℕ, ◌<◌, ◌∙◌, false, get_or, length, sym, arith, position_or_len_is, is_blank, below_more}
 use Rattle.solver_answers.proofs.words.word_length.Goals as goal
 
 pub loop-i-preserved : goal.loop-i-preserved

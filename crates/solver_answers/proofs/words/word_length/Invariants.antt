@@ -1,6 +1,5 @@
 -- No byte before this one is a blank.
-use Rattle.std.proofs.Common.{◌≡◌, ℕ, ◌<◌, false, get_or}
-use Rattle.solver_answers.specs.Words.{is_blank}
+use Rattle.solver_answers.proofs.Common.{◌≡◌, ℕ, ◌<◌, false, get_or, is_blank}
 use Rattle.solver_answers.proofs.words.word_length.Given as goal
 
 abbrev pub invariant-loop-i : goal.invariant-loop-i

@@ -1,6 +1,5 @@
 -- The row is written as every row of an equation is.
-use Rattle.row_problem.proofs.Common.{◌≡◌, true, List, sym, ap, ◌∙◌, subst, err_from_is_err_and, IfErr, OnOk, all_fit, Rational, value_of, Var, Place, IsStop, gathered, gathered_formed, written_formed, span_name, Values}
-use Rattle.span_finder.specs.LimitRows.{cost_terms, limit_formed}
+use Rattle.span_finder.proofs.Common.{◌≡◌, true, List, sym, ap, ◌∙◌, subst, err_from_is_err_and, IfErr, OnOk, all_fit, Rational, value_of, Var, Place, IsStop, gathered, gathered_formed, written_formed, span_name, Values, cost_terms, limit_formed}
 use Rattle.span_finder.proofs.LimitLaws.{row-answer}
 use Rattle.span_finder.proofs.LimitSteps.{fits-first, same-stop, stops-first}
 use Rattle.span_finder.proofs.limiting.limit_row.Goals as goal

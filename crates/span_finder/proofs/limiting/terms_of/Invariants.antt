@@ -1,6 +1,5 @@
 -- With the variables that are left, what is gathered and what is formed is that of all variables.
-use Rattle.row_problem.proofs.Common.{◌≡◌, drop, all_fit, gathered, gathered_formed, gathered_formed_onto, gathered_onto}
-use Rattle.span_finder.specs.LimitRows.{cost_terms}
+use Rattle.span_finder.proofs.Common.{◌≡◌, drop, all_fit, gathered, gathered_formed, gathered_formed_onto, gathered_onto, cost_terms}
 use Rattle.span_finder.proofs.limiting.terms_of.Given as goal
 
 abbrev pub invariant-loop-var : goal.invariant-loop-var

@@ -1,8 +1,6 @@
 -- What the checks make of what is carried back.
-use Rattle.row_problem.proofs.Common.{sym, ◌∙◌, subst, value_of, Has-from_Contains, BoundsAll, weight_of, IsPlan, Cost}
+use Rattle.span_finder.proofs.Common.{sym, ◌∙◌, subst, value_of, Has-from_Contains, BoundsAll, weight_of, IsPlan, Cost, IsClose, NonePasses}
 use Rattle.row_problem.proofs.CompletePlans.{plan-complete}
-use Rattle.span_finder.specs.RoundedTrials.{IsClose}
-use Rattle.span_finder.specs.Trials.{NonePasses}
 use Rattle.span_finder.proofs.RoundedLaws.{end-passes}
 use Rattle.span_finder.proofs.ValueLaws.{capacity-bounded}
 use Rattle.span_finder.proofs.rounded_trial.carried.Goals as goal

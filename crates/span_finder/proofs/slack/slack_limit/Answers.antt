@@ -1,6 +1,5 @@
 -- The product, and the sum after it.
-use Rattle.row_problem.proofs.Common.{◌≡◌, ◌<◌, ◌^◌, ℕ, ℤ, true, false, pos, sym, ap, ap₂, ◌∙◌, arith, to_z, of_z, w128, product_formed, sum_formed, InRange, all_fit, Rational, lowest, times, value_of, back_in_range, is_ok-false, absolute}
-use Rattle.span_finder.specs.Slacks.{slack_of}
+use Rattle.span_finder.proofs.Common.{◌≡◌, ◌<◌, ◌^◌, ℕ, ℤ, true, false, pos, sym, ap, ap₂, ◌∙◌, arith, to_z, of_z, w128, product_formed, sum_formed, InRange, all_fit, Rational, lowest, times, value_of, back_in_range, is_ok-false, absolute, slack_of}
 use Rattle.span_finder.proofs.LimitSteps.{stops-first}
 use Rattle.span_finder.proofs.SlackLaws.{limit-near, limit-refused, limit-value}
 use Rattle.span_finder.proofs.slack.slack_limit.Goals as goal

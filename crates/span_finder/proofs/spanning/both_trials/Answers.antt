@@ -1,6 +1,5 @@
 -- One trial after the other, over the same rows with another cost.
-use Rattle.row_problem.proofs.Common.{◌≡◌, refl, subst, err_from_is_err_and, IfErr, IfOk, Cost, Model, One, Least, IsProgramOf}
-use Rattle.span_finder.specs.SpanEnds.{SpanEnd, StopsAt, span_seen}
+use Rattle.span_finder.proofs.Common.{◌≡◌, refl, subst, err_from_is_err_and, IfErr, IfOk, Cost, Model, One, Least, IsProgramOf, SpanEnd, StopsAt, span_seen}
 use Rattle.span_finder.proofs.SpanLaws.{both-end, both-found, both-stop}
 use Rattle.span_finder.proofs.ValueLaws.{capacity-among}
 use Rattle.span_finder.proofs.spanning.both_trials.Goals as goal

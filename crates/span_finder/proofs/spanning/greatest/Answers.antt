@@ -1,6 +1,5 @@
 -- The second trial.
-use Rattle.row_problem.proofs.Common.{ap, refl, Optimal, Unbounded, Greatest}
-use Rattle.span_finder.specs.SpanEnds.{greatest_end}
+use Rattle.span_finder.proofs.Common.{ap, refl, Optimal, Unbounded, Greatest, greatest_end}
 use Rattle.span_finder.proofs.ValueLaws.{trial-end, trial-extreme, trial-rises}
 use Rattle.span_finder.proofs.spanning.greatest.Goals as goal
 

@@ -1,6 +1,5 @@
 -- The first trial.
-use Rattle.row_problem.proofs.Common.{ap, refl, Optimal, Least}
-use Rattle.span_finder.specs.SpanEnds.{least_end}
+use Rattle.span_finder.proofs.Common.{ap, refl, Optimal, Least, least_end}
 use Rattle.span_finder.proofs.ValueLaws.{trial-end, trial-extreme, trial-stays}
 use Rattle.span_finder.proofs.spanning.least.Goals as goal
 

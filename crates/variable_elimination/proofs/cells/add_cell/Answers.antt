@@ -1,9 +1,6 @@
 -- The entry is put at the end of its column, if there is one.
-use Rattle.std.proofs.Common.{rules, ℤ, List, ◌∷◌, [], ◌++◌, sym, ap, ◌∙◌}
-use Rattle.std.specs.Int.{w128}
-use Rattle.std.proofs.lemmas.Int.{to_z-of_z}
+use Rattle.variable_elimination.proofs.Common.{rules, ℤ, List, ◌∷◌, [], ◌++◌, sym, ap, ◌∙◌, w128, to_z-of_z, RowName}
 use mir.Val.{SFits}
-use Rattle.row_core.specs.declared.RowName.{RowName}
 use Rattle.variable_elimination.proofs.CellSteps.{cell-added, cell-left}
 use Rattle.variable_elimination.proofs.cells.add_cell.Goals as goal
 

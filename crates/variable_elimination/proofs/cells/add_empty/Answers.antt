@@ -1,6 +1,5 @@
 -- A place is put at the variable.
-use Rattle.std.proofs.Common.{sym, subst}
-use Rattle.variable_elimination.specs.Cells.{IsNextEmpty}
+use Rattle.variable_elimination.proofs.Common.{sym, subst, IsNextEmpty}
 use Rattle.variable_elimination.proofs.CellSteps.{empty-added}
 use Rattle.variable_elimination.proofs.cells.add_empty.Goals as goal
 

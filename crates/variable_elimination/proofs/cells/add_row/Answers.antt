@@ -1,7 +1,5 @@
 -- One entry after another.
-use Rattle.std.proofs.Common.{◌≡◌, ◌≤◌, ℤ, List, length, subst}
-use Rattle.std.proofs.lemmas.List.{take_all}
-use Rattle.row_core.specs.declared.Var.{Var}
+use Rattle.variable_elimination.proofs.Common.{◌≡◌, ◌≤◌, ℤ, List, length, subst, take_all, Var}
 use Rattle.variable_elimination.proofs.CellSteps.{AreCells, cells-start, cells-next}
 use Rattle.variable_elimination.proofs.cells.add_row.Goals as goal
 

@@ -1,8 +1,5 @@
 -- One row after another.
-use Rattle.std.proofs.Common.{List, subst}
-use Rattle.std.proofs.lemmas.List.{take_all}
-use Rattle.row_core.specs.declared.Row.{Row}
-use Rattle.variable_elimination.specs.Cells.{HaveColumns}
+use Rattle.variable_elimination.proofs.Common.{List, subst, take_all, Row, HaveColumns}
 use Rattle.variable_elimination.proofs.CellSteps.{columns-start, columns-take}
 use Rattle.variable_elimination.proofs.cells.columns_at.Goals as goal
 

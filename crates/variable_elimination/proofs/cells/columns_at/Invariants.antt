@@ -1,6 +1,5 @@
 -- The columns are those of the rows so far.
-use Rattle.std.proofs.Common.{take}
-use Rattle.variable_elimination.specs.Cells.{HaveColumns}
+use Rattle.variable_elimination.proofs.Common.{take, HaveColumns}
 use Rattle.variable_elimination.proofs.cells.columns_at.Given as goal
 
 abbrev pub invariant-loop-row : goal.invariant-loop-row

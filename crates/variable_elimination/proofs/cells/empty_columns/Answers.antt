@@ -1,9 +1,5 @@
 -- One variable after another.
-use Rattle.std.proofs.Common.{List, subst}
-use Rattle.std.specs.Prelude.{Option, None}
-use Rattle.std.proofs.lemmas.List.{take_all}
-use Rattle.row_core.specs.declared.Var.{Var}
-use Rattle.variable_elimination.specs.Cells.{AreEmpty}
+use Rattle.variable_elimination.proofs.Common.{List, subst, Option, None, take_all, Var, AreEmpty}
 use Rattle.variable_elimination.proofs.CellSteps.{empty-take}
 use Rattle.variable_elimination.proofs.cells.empty_columns.Goals as goal
 

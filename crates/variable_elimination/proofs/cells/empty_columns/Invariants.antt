@@ -1,6 +1,5 @@
 -- The variables so far have places for columns.
-use Rattle.std.proofs.Common.{take}
-use Rattle.variable_elimination.specs.Cells.{AreEmpty}
+use Rattle.variable_elimination.proofs.Common.{take, AreEmpty}
 use Rattle.variable_elimination.proofs.cells.empty_columns.Given as goal
 
 abbrev pub invariant-loop-variable : goal.invariant-loop-variable

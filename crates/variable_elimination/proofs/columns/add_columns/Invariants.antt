@@ -1,6 +1,4 @@
-use Rattle.std.proofs.Common.{◌≡◌, ◌++◌, drop, filter}
-use Rattle.row_core.specs.Numbers.{variables_of}
-use Rattle.written_method.specs.Eliminated.{is_column}
+use Rattle.variable_elimination.proofs.Common.{◌≡◌, ◌++◌, drop, filter, variables_of, is_column}
 use Rattle.variable_elimination.proofs.columns.add_columns.Given as goal
 
 -- with those of the entries that are left, the columns so far are those of the row

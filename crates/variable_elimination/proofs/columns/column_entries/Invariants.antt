@@ -1,5 +1,4 @@
-use Rattle.std.proofs.Common.{◌≡◌, ◌++◌, drop}
-use Rattle.written_method.specs.Eliminated.{column_entries}
+use Rattle.variable_elimination.proofs.Common.{◌≡◌, ◌++◌, drop, column_entries}
 use Rattle.variable_elimination.proofs.columns.column_entries.Given as goal
 
 -- with those of the rows that are left, the columns so far are those of all rows

@@ -1,11 +1,5 @@
 -- The variable is put at its place.
-use Rattle.std.proofs.Common.{◌≡◌, true, sym, ap, ◌∙◌, subst, arith}
-use Rattle.std.proofs.lemmas.Result.{IfOk-weaker}
-use Rattle.row_core.specs.declared.kind_numbers.TheConstants.{TOTAL_DISCOUNTED_COST}
-use Rattle.row_core.specs.Numbers.{ascends}
-use Rattle.row_core.specs.Order.{var_cmp}
-use Rattle.written_method.specs.Eliminated.{placed}
-use Rattle.variable_elimination.specs.CostRows.{AllAreCosts}
+use Rattle.variable_elimination.proofs.Common.{◌≡◌, true, sym, ap, ◌∙◌, subst, arith, IfOk-weaker, TOTAL_DISCOUNTED_COST, ascends, var_cmp, placed, AllAreCosts}
 use Rattle.variable_elimination.proofs.PlacedLaws.{placed-ascends, placed-costs}
 use Rattle.variable_elimination.proofs.costing.add_cost_variable.Goals as goal
 

@@ -1,11 +1,5 @@
 -- Each variable has the entry -1.
-use Rattle.std.proofs.Common.{◌≡◌, ℕ, ◌≤◌, ℤ, pos, List, [], ◌∷◌, ◌++◌, length, map, take, sym, ap, ◌∙◌, subst}
-use Rattle.std.proofs.lemmas.List.{take_all}
-use Rattle.row_core.specs.declared.Var.{Var}
-use Rattle.row_core.specs.Forms.{Form}
-use Rattle.row_core.specs.Numbers.{keys_of, numbers_of, ascends, none_zero, all_in_range, IsLowest}
-use Rattle.row_core.specs.Order.{var_cmp}
-use Rattle.written_method.specs.Eliminated.{cost_variable, minus_one_at}
+use Rattle.variable_elimination.proofs.Common.{◌≡◌, ℕ, ◌≤◌, ℤ, pos, List, [], ◌∷◌, ◌++◌, length, map, take, sym, ap, ◌∙◌, subst, take_all, Var, Form, keys_of, numbers_of, ascends, none_zero, all_in_range, IsLowest, var_cmp, cost_variable, minus_one_at}
 use Rattle.variable_elimination.proofs.CostLaws.{first_entries, first-ascends, first-nonzero, first-fits, first-lowest, entries_more}
 use Rattle.variable_elimination.proofs.costing.cost_start.Goals as goal
 

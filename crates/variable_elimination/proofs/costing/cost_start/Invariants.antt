@@ -1,6 +1,5 @@
 -- The entries so far.
-use Rattle.std.proofs.Common.{◌≡◌, ◌∷◌, pos, map, take}
-use Rattle.written_method.specs.Eliminated.{cost_variable, minus_one_at}
+use Rattle.variable_elimination.proofs.Common.{◌≡◌, ◌∷◌, pos, map, take, cost_variable, minus_one_at}
 use Rattle.variable_elimination.proofs.costing.cost_start.Given as goal
 
 abbrev pub invariant-loop-variable : goal.invariant-loop-variable

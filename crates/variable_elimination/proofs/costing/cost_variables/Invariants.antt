@@ -1,9 +1,5 @@
 -- The variables so far, and those that are left.
-use Rattle.std.proofs.Common.{◌≡◌, [], true, drop}
-use Rattle.row_core.specs.Numbers.{ascends}
-use Rattle.row_core.specs.Order.{var_cmp}
-use Rattle.written_method.specs.Eliminated.{cost_variables}
-use Rattle.variable_elimination.specs.CostRows.{AllAreCosts}
+use Rattle.variable_elimination.proofs.Common.{◌≡◌, [], true, drop, ascends, var_cmp, cost_variables, AllAreCosts}
 use Rattle.variable_elimination.proofs.costing.cost_variables.Given as goal
 
 abbrev pub invariant-loop-def : goal.invariant-loop-def

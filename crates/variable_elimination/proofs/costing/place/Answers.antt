@@ -1,10 +1,6 @@
 -- The search ends at the variable, or between those around it.
-use Rattle.std.proofs.Common.{◌≡◌, ℕ, ◌<◌, ◌≤◌, List, length, get_or, sym, ◌∙◌, subst, arith}
-use Rattle.std.specs.List.Sorted.{IsNonDecreasingBy}
+use Rattle.variable_elimination.proofs.Common.{◌≡◌, ℕ, ◌<◌, ◌≤◌, List, length, get_or, sym, ◌∙◌, subst, arith, IsNonDecreasingBy, Var, ordering_index, var_cmp}
 use Rattle.std.specs.declared.cmp.Ordering.TheVariants.{Less, Equal as Alike, Greater}
-use Rattle.row_core.specs.declared.Var.{Var}
-use Rattle.std.specs.Ordering.{ordering_index}
-use Rattle.row_core.specs.Order.{var_cmp}
 use Rattle.variable_elimination.proofs.PlacedLaws.{placed-at, placed-there, ascends-searchable}
 use Rattle.variable_elimination.proofs.costing.place.Goals as goal
 

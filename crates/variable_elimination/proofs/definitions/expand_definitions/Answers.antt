@@ -1,16 +1,5 @@
 -- One row after another.
-use Rattle.std.proofs.Common.{◌≡◌, ◌+◌, [], ◌∷◌, drop, sym, subst}
-use Rattle.std.specs.Prelude.{None}
-use Rattle.std.proofs.lemmas.Result.{err_from_is_err_and}
-use Rattle.exact_num.specs.Range.{all_fit}
-use Rattle.exact_num.specs.Steps.{first_wide}
-use Rattle.row_core.specs.declared.place.Place.TheVariants.{Expand}
-use Rattle.row_core.specs.Forms.{form_of}
-use Rattle.written_method.specs.Definitions.{definitions_of}
-use Rattle.written_method.specs.Eliminated.{unscaled, definition_steps}
-use Rattle.written_method.specs.Expanded.{expanded_formed}
-use Rattle.variable_elimination.specs.Kept.{forms_in}
-use Rattle.variable_elimination.specs.SoFar.{IsSoFar, IsPushed}
+use Rattle.variable_elimination.proofs.Common.{◌≡◌, ◌+◌, [], ◌∷◌, drop, sym, subst, None, err_from_is_err_and, all_fit, first_wide, Expand, form_of, definitions_of, unscaled, definition_steps, expanded_formed, forms_in, IsSoFar, IsPushed}
 use Rattle.variable_elimination.proofs.DefinitionSteps.{some-left, none-left, no_definition_left}
 use Rattle.variable_elimination.proofs.GrowthLaws.{IsSoFar-next, IsSoFar-stop, IsSoFar-none, IsFirst-from}
 use Rattle.variable_elimination.proofs.SoFarLaws.{end_made, end_reduced, end_fits}

@@ -1,7 +1,5 @@
 -- What holds before the definitions among the rows that are left.
-use Rattle.std.proofs.Common.{drop}
-use Rattle.written_method.specs.Definitions.{definitions_of}
-use Rattle.variable_elimination.specs.SoFar.{IsSoFar}
+use Rattle.variable_elimination.proofs.Common.{drop, definitions_of, IsSoFar}
 use Rattle.variable_elimination.proofs.definitions.expand_definitions.Given as goal
 
 abbrev pub invariant-loop-i : goal.invariant-loop-i

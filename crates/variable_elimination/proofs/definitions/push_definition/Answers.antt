@@ -1,7 +1,5 @@
 -- The row is expanded, and kept at its variable.
-use Rattle.std.proofs.Common.{ap}
-use Rattle.written_method.specs.Expanded.{Scaled}
-use Rattle.variable_elimination.specs.Expansions.{scale_value}
+use Rattle.variable_elimination.proofs.Common.{ap, Scaled, scale_value}
 use Rattle.variable_elimination.proofs.ReductionLaws.{IsReducedBy-itself, IsReducedOver-by}
 use Rattle.variable_elimination.proofs.definitions.push_definition.Goals as goal
 

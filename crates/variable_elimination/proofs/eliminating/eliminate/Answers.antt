@@ -1,22 +1,5 @@
 -- The parts together: the definitions, the other rows, the cost.
-use Rattle.std.proofs.Common.{◌≡◌, ◌+◌, ◌<◌, ◌^◌, length, arith, ℤ, pos, List, [], sym, ap, ◌∙◌, subst}
-use Rattle.std.specs.Prelude.{Option, None, ◌<ℤ◌}
-use Rattle.std.proofs.lemmas.Result.{err_from_is_err_and}
-use Rattle.exact_num.specs.Range.{all_fit}
-use Rattle.exact_num.specs.Steps.{Step, first_wide}
-use Rattle.exact_num.specs.declared.fraction.Frac.{Frac}
-use Rattle.row_core.specs.declared.Row.{Row}
-use Rattle.row_core.specs.declared.Var.{Var}
-use Rattle.row_core.specs.declared.place.Place.{Place}
-use Rattle.row_core.specs.declared.place.Place.TheVariants.{CostRow}
-use Rattle.row_core.specs.Forms.{Form}
-use Rattle.written_method.specs.Definitions.{definitions_of, others_of, rows_of, defined, avoids}
-use Rattle.written_method.specs.Eliminated.{ReducedRow, unscaled, cost_variable, expanded_all, definition_steps, reduced_rows, row_steps, cost_form, cost_row}
-use Rattle.written_method.specs.Expanded.{expanded_formed}
-use Rattle.variable_elimination.specs.Columns.{AreColumns}
-use Rattle.variable_elimination.specs.CostRows.{IsCostOf}
-use Rattle.variable_elimination.specs.Kept.{forms_in}
-use Rattle.variable_elimination.specs.ReducedRows.{AreThese, AreReductions}
+use Rattle.variable_elimination.proofs.Common.{◌≡◌, ◌+◌, ◌<◌, ◌^◌, length, arith, ℤ, pos, List, [], sym, ap, ◌∙◌, subst, Option, None, ◌<ℤ◌, err_from_is_err_and, all_fit, Step, first_wide, Frac, Row, Var, Place, CostRow, Form, definitions_of, others_of, rows_of, defined, avoids, ReducedRow, unscaled, cost_variable, expanded_all, definition_steps, reduced_rows, row_steps, cost_form, cost_row, expanded_formed, AreColumns, IsCostOf, forms_in, AreThese, AreReductions}
 use Rattle.variable_elimination.proofs.AmongLaws.{among-all}
 use Rattle.variable_elimination.proofs.EliminationLaws.{rows-same, steps-same, cost-same, cost_formed-same, three, three-fit, three-first, three-second, three-last, IsFirst-more, cost-positive, first_of_memory}
 use Rattle.variable_elimination.proofs.GrowthLaws.{IsFirst-from}

@@ -1,9 +1,5 @@
 -- The numbers of a row fit.
-use Rattle.std.proofs.Common.{ℤ, List, ap, ◌∙◌}
-use Rattle.exact_num.specs.Range.{all_fit}
-use Rattle.row_core.specs.declared.Var.{Var}
-use Rattle.row_core.specs.Numbers.{numbers_of}
-use Rattle.row_core.proofs.CombinedLaws.{row_fits}
+use Rattle.variable_elimination.proofs.Common.{ℤ, List, ap, ◌∙◌, all_fit, Var, numbers_of, row_fits}
 use Rattle.variable_elimination.proofs.eliminating.with_cost.Goals as goal
 
 pub number_of-requires-clause-fits : goal.number_of-requires-clause-fits

@@ -1,11 +1,5 @@
 -- The copy keeps what the row keeps.
-use Rattle.std.proofs.Common.{◌≡◌, ℤ, List, ◌∷◌, ◌++◌, sym, ap, ap₂, ◌∙◌, subst, to_z, of_z}
-use Rattle.std.specs.Int.{w128}
-use Rattle.exact_num.proofs.RangeLaws.{back_in_range}
-use Rattle.row_core.specs.declared.Var.{Var}
-use Rattle.row_core.specs.Numbers.{variables_of, numbers_of, ascends, none_zero, all_in_range, IsLowest}
-use Rattle.row_core.specs.Order.{var_cmp}
-use Rattle.row_core.proofs.CombinedLaws.{rhs_fits}
+use Rattle.variable_elimination.proofs.Common.{◌≡◌, ℤ, List, ◌∷◌, ◌++◌, sym, ap, ap₂, ◌∙◌, subst, to_z, of_z, w128, back_in_range, Var, variables_of, numbers_of, ascends, none_zero, all_in_range, IsLowest, var_cmp, rhs_fits}
 use Rattle.variable_elimination.proofs.expanding.copy_of.Goals as goal
 
 pub invariant_of-result : goal.invariant_of-result

@@ -1,23 +1,5 @@
 -- One variable of the row after another.
-use Rattle.std.proofs.Common.{◌≡◌, pos, Bool, false, get_or, sym, ap, ap₂, ◌∙◌, subst}
-use Rattle.std.specs.Prelude.{◌<ℤ◌, Option, Some, None}
-use Rattle.std.specs.BTreeMap.{get}
-use Rattle.std.proofs.lemmas.Result.{err_from_is_err_and}
-use Rattle.exact_num.specs.Range.{all_fit}
-use Rattle.exact_num.specs.declared.fraction.Frac.{Frac}
-use Rattle.exact_num.proofs.StepLaws.{all_fit-nil}
-use Rattle.row_core.specs.declared.Row.{Row}
-use Rattle.row_core.specs.declared.Var.{Var}
-use Rattle.row_core.specs.Forms.{Form, form_of}
-use Rattle.row_core.specs.Numbers.{variables_of}
-use Rattle.row_core.specs.Order.{var_cmp}
-use Rattle.row_core.specs.Rows.{number_at}
-use Rattle.row_core.specs.declared.Sense.TheVariants.{Equal}
-use Rattle.row_core.proofs.WritingSteps.{IsStop-more, no_entry}
-use Rattle.written_method.specs.Expanded.{Scaled, definition_among, without, without_formed, without_all, without_all_formed, expanded_formed}
-use Rattle.variable_elimination.specs.Expansions.{scale_value, scaled_of}
-use Rattle.variable_elimination.specs.Kept.{forms_in}
-use Rattle.variable_elimination.specs.Reductions.{IsReducedOver, IsReducedOne}
+use Rattle.variable_elimination.proofs.Common.{◌≡◌, pos, Bool, false, get_or, sym, ap, ap₂, ◌∙◌, subst, ◌<ℤ◌, Option, Some, None, get, err_from_is_err_and, all_fit, Frac, all_fit-nil, Row, Var, Form, form_of, variables_of, var_cmp, number_at, Equal, IsStop-more, no_entry, Scaled, definition_among, without, without_formed, without_all, without_all_formed, expanded_formed, scale_value, scaled_of, forms_in, IsReducedOver, IsReducedOne}
 use Rattle.variable_elimination.proofs.ExpandLaws.{made-next, formed-next, formed-stop, formed-done}
 use Rattle.variable_elimination.proofs.LookUpLaws.{form_there, definition_among-get, IfSome-at}
 use Rattle.variable_elimination.proofs.ReductionLaws.{IsReducedOver-form}

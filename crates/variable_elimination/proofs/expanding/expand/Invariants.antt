@@ -1,12 +1,5 @@
 -- What is removed so far, and what the other variables will remove and form.
-use Rattle.std.proofs.Common.{◌≡◌, List, drop}
-use Rattle.exact_num.specs.Range.{all_fit}
-use Rattle.row_core.specs.declared.Row.{Row}
-use Rattle.row_core.specs.Numbers.{variables_of}
-use Rattle.written_method.specs.Expanded.{without_all, without_all_formed, expanded, expanded_formed}
-use Rattle.variable_elimination.specs.Expansions.{scale_value, scaled_of}
-use Rattle.variable_elimination.specs.Kept.{forms_in, AreReduced}
-use Rattle.variable_elimination.specs.Reductions.{IsReducedOver}
+use Rattle.variable_elimination.proofs.Common.{◌≡◌, List, drop, all_fit, Row, variables_of, without_all, without_all_formed, expanded, expanded_formed, scale_value, scaled_of, forms_in, AreReduced, IsReducedOver}
 use Rattle.variable_elimination.proofs.expanding.expand.Given as goal
 
 abbrev pub invariant-loop-entry : goal.invariant-loop-entry

@@ -1,13 +1,5 @@
 -- Where no scale is kept nothing is formed.
-use Rattle.std.proofs.Common.{◌≡◌, true}
-use Rattle.std.specs.Prelude.{Option, Some, None}
-use Rattle.exact_num.specs.Range.{all_fit}
-use Rattle.exact_num.specs.Rational.{Rational}
-use Rattle.exact_num.specs.Value.{value_of}
-use Rattle.exact_num.specs.declared.fraction.Frac.{Frac}
-use Rattle.exact_num.proofs.StepLaws.{all_fit-nil}
-use Rattle.written_method.specs.Expanded.{scaled_by_formed}
-use Rattle.variable_elimination.specs.Expansions.{scale_value}
+use Rattle.variable_elimination.proofs.Common.{◌≡◌, true, Option, Some, None, all_fit, Rational, value_of, Frac, all_fit-nil, scaled_by_formed, scale_value}
 use Rattle.variable_elimination.proofs.expanding.multiplied.Goals as goal
 
 none : (scale : Option Frac) (by : Rational) → ((s : Frac) → scale ≡ Some s → ⊥) → all_fit (scaled_by_formed (scale_value scale) by) ≡ true

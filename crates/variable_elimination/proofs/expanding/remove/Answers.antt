@@ -1,17 +1,5 @@
 -- The row is combined, and then the scale multiplied.
-use Rattle.std.proofs.Common.{◌≡◌, ℤ, Bool, true, false, List, ◌++◌, ◌&&◌, sym, ap, ◌∙◌, subst}
-use Rattle.std.specs.Cmp.Derive.{both_true}
-use Rattle.std.proofs.lemmas.Result.{err_from_is_err_and}
-use Rattle.exact_num.specs.Range.{all_fit}
-use Rattle.exact_num.specs.Value.{value_of}
-use Rattle.exact_num.proofs.StepLaws.{all_fit-append}
-use Rattle.row_core.proofs.WritingSteps.{IsStop-more}
-use Rattle.row_core.specs.Combined.{combined_formed, combined_scale}
-use Rattle.row_core.specs.Forms.{form_of}
-use Rattle.row_core.proofs.CombinedLaws.{and_false}
-use Rattle.written_method.specs.Expanded.{scaled_by_formed}
-use Rattle.variable_elimination.specs.Expansions.{scale_value}
-use Rattle.variable_elimination.specs.Reductions.{IsReducedOver}
+use Rattle.variable_elimination.proofs.Common.{◌≡◌, ℤ, Bool, true, false, List, ◌++◌, ◌&&◌, sym, ap, ◌∙◌, subst, both_true, err_from_is_err_and, all_fit, value_of, all_fit-append, IsStop-more, combined_formed, combined_scale, form_of, and_false, scaled_by_formed, scale_value, IsReducedOver}
 use Rattle.variable_elimination.proofs.ExpandLaws.{value-IsLowest}
 use Rattle.variable_elimination.proofs.ReductionLaws.{IsReducedOver-combined}
 use Rattle.variable_elimination.proofs.expanding.remove.Goals as goal

@@ -1,9 +1,5 @@
 -- What the lifted values say.
-use Rattle.std.proofs.Common.{◌≡◌, sym, subst}
-use Rattle.std.proofs.lemmas.Result.{IfOk-weaker}
-use Rattle.written_method.specs.Definitions.{definitions_of, defined}
-use Rattle.written_method.specs.Lifted.{lifted, no_right_side}
-use Rattle.variable_elimination.specs.Lifts.{KeepsOthers, CarriesDirection, MakesRight}
+use Rattle.variable_elimination.proofs.Common.{◌≡◌, sym, subst, IfOk-weaker, definitions_of, defined, lifted, no_right_side, KeepsOthers, CarriesDirection, MakesRight}
 use Rattle.variable_elimination.proofs.LiftedLaws.{lifted-others, carries_direction, direction_right}
 use Rattle.variable_elimination.proofs.lifting.lift_direction.Goals as goal
 

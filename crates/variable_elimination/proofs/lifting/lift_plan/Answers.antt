@@ -1,9 +1,5 @@
 -- What the lifted values say.
-use Rattle.std.proofs.Common.{◌≡◌, sym, subst}
-use Rattle.std.proofs.lemmas.Result.{IfOk-weaker}
-use Rattle.written_method.specs.Definitions.{definitions_of, defined}
-use Rattle.written_method.specs.Lifted.{lifted, right_side}
-use Rattle.variable_elimination.specs.Lifts.{KeepsOthers, CarriesPlan, MakesRight}
+use Rattle.variable_elimination.proofs.Common.{◌≡◌, sym, subst, IfOk-weaker, definitions_of, defined, lifted, right_side, KeepsOthers, CarriesPlan, MakesRight}
 use Rattle.variable_elimination.proofs.LiftedLaws.{lifted-others, carries_plan, plan_right}
 use Rattle.variable_elimination.proofs.lifting.lift_plan.Goals as goal
 

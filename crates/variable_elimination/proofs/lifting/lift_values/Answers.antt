@@ -1,17 +1,5 @@
 -- One definition after another.
-use Rattle.std.proofs.Common.{◌≡◌, ◌+◌, List, map, ap, ◌∷◌, drop, sym, subst, ◌∙◌}
-use Rattle.std.specs.Prelude.{None}
-use Rattle.std.proofs.lemmas.Result.{err_from_is_err_and}
-use Rattle.exact_num.specs.Range.{all_fit}
-use Rattle.exact_num.specs.Steps.{first_wide}
-use Rattle.exact_num.specs.declared.fraction.Frac.{Frac}
-use Rattle.row_core.specs.declared.Var.{Var}
-use Rattle.row_core.specs.Order.{var_cmp}
-use Rattle.row_core.specs.Plans.{valued, value_in}
-use Rattle.written_method.specs.Definitions.{definitions_of, AreTriangular}
-use Rattle.written_method.specs.Lifted.{lifted, lifted_steps, lifted_formed}
-use Rattle.variable_elimination.specs.Lifting.{right_by, place_by, definition_by, IsLifting}
-use Rattle.variable_elimination.specs.Valued.{values_in}
+use Rattle.variable_elimination.proofs.Common.{◌≡◌, ◌+◌, List, map, ap, ◌∷◌, drop, sym, subst, ◌∙◌, None, err_from_is_err_and, all_fit, first_wide, Frac, Var, var_cmp, valued, value_in, definitions_of, AreTriangular, lifted, lifted_steps, lifted_formed, right_by, place_by, definition_by, IsLifting, values_in}
 use Rattle.variable_elimination.proofs.DefinitionSteps.{some-left, none-left, no_definition_left}
 use Rattle.variable_elimination.proofs.GrowthLaws.{IsFirst-from}
 use Rattle.variable_elimination.proofs.LiftingSteps.{IsLifting-next, IsLifting-stop, IsLifting-end}

@@ -1,7 +1,5 @@
 -- What holds before the definitions among the rows that are left.
-use Rattle.std.proofs.Common.{drop}
-use Rattle.written_method.specs.Definitions.{definitions_of, AreTriangular}
-use Rattle.variable_elimination.specs.Lifting.{IsLifting}
+use Rattle.variable_elimination.proofs.Common.{drop, definitions_of, AreTriangular, IsLifting}
 use Rattle.variable_elimination.proofs.lifting.lift_values.Given as goal
 
 abbrev pub invariant-loop-i : goal.invariant-loop-i

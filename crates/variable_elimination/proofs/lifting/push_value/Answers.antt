@@ -1,11 +1,5 @@
 -- The value is put at its variable.
-use Rattle.std.proofs.Common.{List, map, ap, ◌∙◌}
-use Rattle.std.specs.BTreeMap.{insert_entry}
-use Rattle.exact_num.specs.declared.fraction.Frac.{Frac}
-use Rattle.row_core.specs.declared.Var.{Var}
-use Rattle.row_core.specs.Order.{var_cmp}
-use Rattle.row_core.proofs.Orders.{var_cmp_total}
-use Rattle.row_core.specs.Plans.{valued}
+use Rattle.variable_elimination.proofs.Common.{List, map, ap, ◌∙◌, insert_entry, Frac, Var, var_cmp, var_cmp_total, valued}
 use Rattle.variable_elimination.proofs.ValueSteps.{insert-valued}
 use Rattle.variable_elimination.proofs.lifting.push_value.Goals as goal
 

@@ -1,22 +1,5 @@
 -- One definition before another, from the last.
-use Rattle.std.proofs.Common.{◌≡◌, ℕ, ◌+◌, ◌-◌, ◌<◌, ℤ, List, length, drop, sym, ap, ◌∙◌, subst, arith}
-use Rattle.std.specs.Prelude.{None, is_some}
-use Rattle.std.proofs.lemmas.Result.{err_from_is_err_and}
-use Rattle.exact_num.specs.Range.{all_fit}
-use Rattle.exact_num.specs.Steps.{first_wide}
-use Rattle.row_core.specs.declared.RowName.{RowName}
-use Rattle.row_core.specs.declared.place.Place.TheVariants.{LiftMultiplier}
-use Rattle.row_core.specs.Columns.{column_of}
-use Rattle.row_core.specs.Numbers.{numbers_of}
-use Rattle.row_core.specs.Order.{row_name_cmp}
-use Rattle.row_core.specs.Plans.{value_in}
-use Rattle.row_core.specs.Rows.{number_at}
-use Rattle.written_method.specs.Definitions.{definitions_of, AreTriangular}
-use Rattle.written_method.specs.Multiplied.{coefficient, defined_steps}
-use Rattle.written_method.specs.SolvedFor.{solved_formed}
-use Rattle.variable_elimination.specs.Cells.{cells_at}
-use Rattle.variable_elimination.specs.Multiplying.{AreDone}
-use Rattle.variable_elimination.specs.Valued.{values_in}
+use Rattle.variable_elimination.proofs.Common.{◌≡◌, ℕ, ◌+◌, ◌-◌, ◌<◌, ℤ, List, length, drop, sym, ap, ◌∙◌, subst, arith, None, is_some, err_from_is_err_and, all_fit, first_wide, RowName, LiftMultiplier, column_of, numbers_of, row_name_cmp, value_in, number_at, definitions_of, AreTriangular, coefficient, defined_steps, solved_formed, cells_at, AreDone, values_in}
 use Rattle.variable_elimination.proofs.CellSteps.{given-at, column-fits}
 use Rattle.variable_elimination.proofs.DefinitionSteps.{some-left}
 use Rattle.variable_elimination.proofs.GrowthLaws.{IsFirst-from}

@@ -1,7 +1,5 @@
 -- The last definitions are done.
-use Rattle.std.proofs.Common.{◌-◌, length, drop}
-use Rattle.variable_elimination.specs.Multiplying.{AreDone}
-use Rattle.variable_elimination.specs.Valued.{values_in}
+use Rattle.variable_elimination.proofs.Common.{◌-◌, length, drop, AreDone, values_in}
 use Rattle.variable_elimination.proofs.multiplying.add_defined.Given as goal
 
 abbrev pub invariant-loop-done : goal.invariant-loop-done

@@ -1,19 +1,5 @@
 -- The reduced rows, and then the definitions; and what the multipliers keep.
-use Rattle.std.proofs.Common.{◌≡◌, List, [], map, sym, ap, ◌∙◌, subst}
-use Rattle.std.proofs.lemmas.Result.{err_from_is_err_and}
-use Rattle.exact_num.specs.Rational.{Rational}
-use Rattle.exact_num.specs.Steps.{Step, first_wide}
-use Rattle.exact_num.specs.Value.{value_of}
-use Rattle.exact_num.specs.declared.fraction.Frac.{Frac}
-use Rattle.row_core.specs.declared.RowName.{RowName}
-use Rattle.row_core.specs.declared.place.Place.{Place}
-use Rattle.row_core.specs.Plans.{valued}
-use Rattle.written_method.specs.declared.reduced.Reduced.{Reduced}
-use Rattle.written_method.specs.Definitions.{definitions_of, defined}
-use Rattle.written_method.specs.Multiplied.{scaled_multipliers, scaled_steps, defined_multipliers, defined_steps, named_multipliers, multiplier_steps}
-use Rattle.variable_elimination.specs.Certified.{CarriesBound, CarriesSum}
-use Rattle.row_core.specs.RowLists.{names_of}
-use Rattle.variable_elimination.specs.Valued.{values_in}
+use Rattle.variable_elimination.proofs.Common.{◌≡◌, List, [], map, sym, ap, ◌∙◌, subst, err_from_is_err_and, Rational, Step, first_wide, value_of, Frac, RowName, Place, valued, Reduced, definitions_of, defined, scaled_multipliers, scaled_steps, defined_multipliers, defined_steps, named_multipliers, multiplier_steps, CarriesBound, CarriesSum, names_of, values_in}
 use Rattle.variable_elimination.proofs.EliminationLaws.{IsFirst-more}
 use Rattle.variable_elimination.proofs.KeptLaws.{keeps_sum, keeps_bound}
 use Rattle.variable_elimination.proofs.MultiplyingSteps.{both-fit, first-stops, second-stops}

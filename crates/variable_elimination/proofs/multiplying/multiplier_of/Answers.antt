@@ -1,20 +1,5 @@
 -- The column is solved for the row's name.
-use Rattle.std.proofs.Common.{◌≡◌, ◌≢◌, ℤ, pos, List, sym, ap, ap₂, ◌∙◌, subst}
-use Rattle.std.specs.Prelude.{IfOk}
-use Rattle.exact_num.specs.Range.{InRange, all_fit}
-use Rattle.exact_num.specs.Rational.{Rational}
-use Rattle.exact_num.specs.Value.{value_of}
-use Rattle.exact_num.proofs.Integers.{nonzero_of_pos}
-use Rattle.exact_num.proofs.RangeLaws.{back_in_range}
-use Rattle.row_core.specs.declared.RowName.{RowName}
-use Rattle.row_core.specs.declared.Var.{Var}
-use Rattle.row_core.specs.Numbers.{numbers_of}
-use Rattle.row_core.specs.Order.{row_name_cmp}
-use Rattle.row_core.specs.Plans.{value_in}
-use Rattle.row_core.specs.Rows.{number_at}
-use Rattle.row_core.proofs.CombinedLaws.{row_fits}
-use Rattle.written_method.specs.SolvedFor.{solved_for, solved_formed}
-use Rattle.variable_elimination.specs.Valued.{values_in}
+use Rattle.variable_elimination.proofs.Common.{◌≡◌, ◌≢◌, ℤ, pos, List, sym, ap, ap₂, ◌∙◌, subst, IfOk, InRange, all_fit, Rational, value_of, nonzero_of_pos, back_in_range, RowName, Var, numbers_of, row_name_cmp, value_in, number_at, row_fits, solved_for, solved_formed, values_in}
 use Rattle.variable_elimination.proofs.multiplying.multiplier_of.Goals as goal
 
 pub number_of-own-requires-clause-fits : goal.number_of-own-requires-clause-fits

@@ -1,11 +1,5 @@
 -- The product is put at the row's name.
-use Rattle.std.proofs.Common.{List, map, ap, ◌∙◌}
-use Rattle.std.specs.BTreeMap.{insert_entry}
-use Rattle.exact_num.specs.declared.fraction.Frac.{Frac}
-use Rattle.row_core.specs.declared.RowName.{RowName}
-use Rattle.row_core.specs.Order.{row_name_cmp}
-use Rattle.row_core.specs.Plans.{valued}
-use Rattle.row_core.proofs.Orders.{row_name_cmp_total}
+use Rattle.variable_elimination.proofs.Common.{List, map, ap, ◌∙◌, insert_entry, Frac, RowName, row_name_cmp, valued, row_name_cmp_total}
 use Rattle.variable_elimination.proofs.ValueSteps.{insert-valued}
 use Rattle.variable_elimination.proofs.multiplying.push_scaled.Goals as goal
 

@@ -1,15 +1,5 @@
 -- One reduced row after another.
-use Rattle.std.proofs.Common.{◌≡◌, ◌+◌, ◌<◌, ◌≤◌, List, map, length, get_or, drop, sym, subst}
-use Rattle.std.proofs.lemmas.List.{at_drop_all}
-use Rattle.std.proofs.lemmas.Result.{err_from_is_err_and}
-use Rattle.exact_num.specs.Formed.{product_formed}
-use Rattle.exact_num.specs.Range.{all_fit}
-use Rattle.exact_num.specs.Steps.{first_wide}
-use Rattle.exact_num.specs.Value.{value_of}
-use Rattle.row_core.specs.declared.Row.{Row}
-use Rattle.row_core.specs.declared.place.Place.TheVariants.{LiftMultiplier}
-use Rattle.written_method.specs.Multiplied.{scaled_steps}
-use Rattle.row_core.specs.RowLists.{names_of}
+use Rattle.variable_elimination.proofs.Common.{◌≡◌, ◌+◌, ◌<◌, ◌≤◌, List, map, length, get_or, drop, sym, subst, at_drop_all, err_from_is_err_and, product_formed, all_fit, first_wide, value_of, Row, LiftMultiplier, scaled_steps, names_of}
 use Rattle.variable_elimination.proofs.GrowthLaws.{IsFirst-from}
 use Rattle.variable_elimination.proofs.MultiplyingSteps.{next_item, scaling-next, scaling-stop, scaling-end}
 use Rattle.variable_elimination.proofs.multiplying.scaled_multipliers.Goals as goal

@@ -1,6 +1,5 @@
 -- What holds before the reduced rows that are left.
-use Rattle.std.proofs.Common.{drop}
-use Rattle.variable_elimination.specs.Multiplying.{AreScaling}
+use Rattle.variable_elimination.proofs.Common.{drop, AreScaling}
 use Rattle.variable_elimination.proofs.multiplying.scaled_multipliers.Given as goal
 
 abbrev pub invariant-loop-i : goal.invariant-loop-i

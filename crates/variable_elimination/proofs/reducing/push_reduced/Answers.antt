@@ -1,20 +1,5 @@
 -- The row is expanded, and kept where it has to stay.
-use Rattle.std.proofs.Common.{◌≡◌, pos, true, false, List, ◌++◌, [], ◌∷◌, sym, ap, ◌∙◌, subst, if◌then◌else◌}
-use Rattle.std.specs.Prelude.{Option, Some}
-use Rattle.std.specs.BTreeMap.{BTreeMap}
-use Rattle.exact_num.specs.Rational.{Rational, whole}
-use Rattle.exact_num.specs.Value.{value_of}
-use Rattle.exact_num.specs.declared.fraction.Frac.{Frac}
-use Rattle.row_core.specs.declared.Row.{Row}
-use Rattle.row_core.specs.declared.Var.{Var}
-use Rattle.row_core.specs.Forms.{form_of}
-use Rattle.row_core.specs.Numbers.{variables_of}
-use Rattle.written_method.specs.Eliminated.{at_first}
-use Rattle.written_method.specs.Expanded.{Scaled, expanded}
-use Rattle.variable_elimination.specs.Expansions.{scale_value, scaled_of, IsExpansion}
-use Rattle.variable_elimination.specs.Kept.{forms_in, AreReduced}
-use Rattle.variable_elimination.specs.ReducedRows.{stays, IsNextRow}
-use Rattle.variable_elimination.specs.Reductions.{IsReduced, IsReducedOver}
+use Rattle.variable_elimination.proofs.Common.{◌≡◌, pos, true, false, List, ◌++◌, [], ◌∷◌, sym, ap, ◌∙◌, subst, if◌then◌else◌, Option, Some, BTreeMap, Rational, whole, value_of, Frac, Row, Var, form_of, variables_of, at_first, Scaled, expanded, scale_value, scaled_of, IsExpansion, forms_in, AreReduced, stays, IsNextRow, IsReduced, IsReducedOver}
 use Rattle.variable_elimination.proofs.ExpandLaws.{value-IsLowest}
 use Rattle.variable_elimination.proofs.ReductionLaws.{IsReduced-itself}
 use Rattle.variable_elimination.proofs.RowSteps.{HasScale, all-scale}

@@ -1,17 +1,5 @@
 -- One row after another.
-use Rattle.std.proofs.Common.{◌≡◌, ◌+◌, List, [], ◌∷◌, drop, sym, ap, subst, Vec, Global}
-use Rattle.std.specs.Prelude.{None}
-use Rattle.std.proofs.lemmas.Result.{err_from_is_err_and}
-use Rattle.exact_num.specs.Range.{all_fit}
-use Rattle.exact_num.specs.Steps.{first_wide}
-use Rattle.exact_num.specs.declared.fraction.Frac.{Frac}
-use Rattle.row_core.specs.declared.Row.{Row}
-use Rattle.row_core.specs.declared.place.Place.TheVariants.{Expand}
-use Rattle.written_method.specs.Definitions.{others_of}
-use Rattle.written_method.specs.Eliminated.{at_first, row_steps}
-use Rattle.written_method.specs.Expanded.{expanded_formed}
-use Rattle.variable_elimination.specs.Kept.{forms_in}
-use Rattle.variable_elimination.specs.ReducedRows.{AreSoFar, IsNextRow}
+use Rattle.variable_elimination.proofs.Common.{◌≡◌, ◌+◌, List, [], ◌∷◌, drop, sym, ap, subst, Vec, Global, None, err_from_is_err_and, all_fit, first_wide, Frac, Row, Expand, others_of, at_first, row_steps, expanded_formed, forms_in, AreSoFar, IsNextRow}
 use Rattle.variable_elimination.proofs.DefinitionSteps.{other-left, defined-left, no_other_left}
 use Rattle.variable_elimination.proofs.GrowthLaws.{IsFirst-from}
 use Rattle.variable_elimination.proofs.RowSteps.{AreSoFar-none, AreSoFar-next, AreSoFar-stop, end_these, end_reductions, end_steps}

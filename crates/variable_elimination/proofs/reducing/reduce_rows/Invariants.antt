@@ -1,7 +1,5 @@
 -- What holds before the other rows among those that are left.
-use Rattle.std.proofs.Common.{drop}
-use Rattle.written_method.specs.Definitions.{others_of}
-use Rattle.variable_elimination.specs.ReducedRows.{AreSoFar}
+use Rattle.variable_elimination.proofs.Common.{drop, others_of, AreSoFar}
 use Rattle.variable_elimination.proofs.reducing.reduce_rows.Given as goal
 
 abbrev pub invariant-loop-i : goal.invariant-loop-i

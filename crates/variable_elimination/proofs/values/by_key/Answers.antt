@@ -1,6 +1,5 @@
 -- The next entry is put after those before it.
-use Rattle.std.proofs.Common.{ap, ◌∙◌}
-use Rattle.std.specs.BTreeMap.{insert_entry}
+use Rattle.variable_elimination.proofs.Common.{ap, ◌∙◌, insert_entry}
 use Rattle.variable_elimination.proofs.ValueSteps.{insert-next}
 use Rattle.variable_elimination.proofs.values.by_key.Goals as goal
 

@@ -1,6 +1,5 @@
 -- The keys of a map ascend.
-use Rattle.std.proofs.Common.{◌≡◌, rules, ap, ◌∙◌}
-use Rattle.row_core.specs.Numbers.{ascends, keys_of}
+use Rattle.variable_elimination.proofs.Common.{◌≡◌, rules, ap, ◌∙◌, ascends, keys_of}
 use Rattle.variable_elimination.proofs.ValueSteps.{keys-ascend}
 use Rattle.variable_elimination.proofs.values.entries_of.Goals as goal
 

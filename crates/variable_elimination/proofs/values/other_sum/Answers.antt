@@ -1,14 +1,5 @@
 -- Number by number, without the key's own.
-use Rattle.std.proofs.Common.{◌≡◌, ◌+◌, true, false, drop, rules, sym, ap, ap₂, ◌∙◌, subst}
-use Rattle.std.specs.Ordering.{is_eq}
-use Rattle.exact_num.specs.Range.{InRange, all_fit}
-use Rattle.exact_num.specs.Rational.{whole, plus, times}
-use Rattle.exact_num.specs.Value.{value_of}
-use Rattle.exact_num.proofs.RangeLaws.{back_in_range, is_ok-false}
-use Rattle.row_core.specs.Evaluated.{term_formed}
-use Rattle.row_core.specs.Plans.{value_in}
-use Rattle.row_core.proofs.WritingSteps.{item_fits}
-use Rattle.variable_elimination.specs.Valued.{values_in}
+use Rattle.variable_elimination.proofs.Common.{◌≡◌, ◌+◌, true, false, drop, rules, sym, ap, ap₂, ◌∙◌, subst, is_eq, InRange, all_fit, whole, plus, times, value_of, back_in_range, is_ok-false, term_formed, value_in, item_fits, values_in}
 use Rattle.variable_elimination.proofs.ValueSteps.{next_entry, not_alike, sum_left, formed_left, skip-sum, skip-formed, take-sum, take-formed, stop-formed, end-formed}
 use Rattle.variable_elimination.proofs.values.other_sum.Goals as goal
 use Rattle.variable_elimination.proofs.values.other_sum.Goals.{in-Equal, in_default+in_ok-sum-in_default}

@@ -1,9 +1,5 @@
 -- The sum so far, and those numbers that are left.
-use Rattle.std.proofs.Common.{◌≡◌, pos, drop}
-use Rattle.exact_num.specs.Rational.{whole}
-use Rattle.exact_num.specs.Value.{value_of}
-use Rattle.row_core.specs.Plans.{value_in}
-use Rattle.variable_elimination.specs.Valued.{values_in}
+use Rattle.variable_elimination.proofs.Common.{◌≡◌, pos, drop, whole, value_of, value_in, values_in}
 use Rattle.variable_elimination.proofs.ValueSteps.{sum_left, formed_left}
 use Rattle.variable_elimination.proofs.values.other_sum.Given as goal
 

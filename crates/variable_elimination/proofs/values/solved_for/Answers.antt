@@ -1,14 +1,5 @@
 -- The sum, the difference and the quotient.
-use Rattle.std.proofs.Common.{◌≡◌, true, false, sym, ap, ap₂, ◌∙◌, subst}
-use Rattle.std.specs.Prelude.{IfOk}
-use Rattle.exact_num.specs.Formed.{difference_formed, quotient_formed}
-use Rattle.exact_num.specs.Range.{all_fit}
-use Rattle.exact_num.specs.Rational.{whole, minus, divided}
-use Rattle.exact_num.specs.Value.{value_of}
-use Rattle.exact_num.proofs.RangeLaws.{back_in_range, is_ok-false}
-use Rattle.row_core.specs.Plans.{value_in}
-use Rattle.written_method.specs.SolvedFor.{other_sum, other_sum_formed}
-use Rattle.variable_elimination.specs.Valued.{values_in}
+use Rattle.variable_elimination.proofs.Common.{◌≡◌, true, false, sym, ap, ap₂, ◌∙◌, subst, IfOk, difference_formed, quotient_formed, all_fit, whole, minus, divided, value_of, back_in_range, is_ok-false, value_in, other_sum, other_sum_formed, values_in}
 use Rattle.variable_elimination.proofs.ValueSteps.{first-wide, second-wide, third-fits}
 use Rattle.variable_elimination.proofs.values.solved_for.Goals as goal
 

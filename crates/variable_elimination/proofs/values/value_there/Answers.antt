@@ -1,6 +1,5 @@
 -- What the map has is the value.
-use Rattle.std.proofs.Common.{sym, ap, ◌∙◌}
-use Rattle.row_core.proofs.PlanValueLaws.{worth}
+use Rattle.variable_elimination.proofs.Common.{sym, ap, ◌∙◌, worth}
 use Rattle.variable_elimination.proofs.ValueSteps.{value_in-get}
 use Rattle.variable_elimination.proofs.values.value_there.Goals as goal
 

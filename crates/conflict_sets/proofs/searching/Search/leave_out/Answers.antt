@@ -1,7 +1,6 @@
 -- A trial of the others, and what it leads to.
 use Rattle.std.proofs.Common.{◌+◌, ap, ap₂, sym, ◌∙◌}
-use Rattle.conflict_sets.specs.Searches.{all_needed}
-use Rattle.conflict_sets.specs.Walks.{walk}
+use Rattle.conflict_sets.proofs.Common.{all_needed, walk}
 use Rattle.conflict_sets.proofs.SearchLaws.{search-goes, search-skips}
 use Rattle.conflict_sets.proofs.WalkLaws.{walk-goes, walk-skips, walk-stops}
 use Rattle.conflict_sets.proofs.searching.Search.leave_out.Goals as goal

@@ -1,10 +1,5 @@
 -- Numbers within the sizes are so small that the products are sure to have 64 bits.
-use Rattle.std.proofs.Common.{◌<◌, ◌+◌, ◌*◌, ◌^◌, ℕ, ℤ, List, sym, ap, ap₂, ◌∙◌, subst, to_z, of_z}
-use Rattle.std.specs.Int.{w64, w128}
-use Rattle.std.specs.Prelude.{unsigned_abs}
-use Rattle.row_core.specs.Numbers.{numbers_of}
-use Rattle.int_tableau.specs.KeptEntries.{entries_kept}
-use Rattle.int_tableau.specs.Sizes.{AreWithin, AreSure}
+use Rattle.int_tableau.proofs.Common.{◌<◌, ◌+◌, ◌*◌, ◌^◌, ℕ, ℤ, List, sym, ap, ap₂, ◌∙◌, subst, to_z, of_z, w64, w128, unsigned_abs, numbers_of, entries_kept, AreWithin, AreSure}
 use Rattle.int_tableau.proofs.NarrowLaws.{back_narrow}
 use Rattle.int_tableau.proofs.entry_list.EntryList.combine.Goals as goal
 

@@ -1,8 +1,5 @@
 -- Numbers of 64 bits stay such.
-use Rattle.std.proofs.Common.{List, ℕ, ℤ, sym, subst}
-use Rattle.int_tableau.specs.declared.entry_list.EntryList.TheInside.{Inside}
-use Rattle.int_tableau.specs.KeptEntries.{AreKept}
-use Rattle.int_tableau.specs.Narrow.{AreNarrow}
+use Rattle.int_tableau.proofs.Common.{List, ℕ, ℤ, sym, subst, Inside, AreKept, AreNarrow}
 use Rattle.int_tableau.proofs.NarrowLaws.{AreNarrow-negated}
 use Rattle.int_tableau.proofs.entry_list.EntryList.negate.Goals.{in-Narrow, in-Wide}
 use Rattle.int_tableau.proofs.entry_list.EntryList.negate.Goals as goal

@@ -1,10 +1,5 @@
 -- A line with an entry in the column is combined, another one stays.
-use Rattle.std.proofs.Common.{◌≡◌, ◌≢◌, ℤ, pos, Bool, sym, ap, ap₂, ◌∙◌, subst, to_z, of_z}
-use Rattle.std.specs.Int.{w128}
-use Rattle.std.proofs.lemmas.Result.{err_from_is_err_and}
-use Rattle.exact_num.specs.Range.{InRange, all_fit}
-use Rattle.exact_num.proofs.RangeLaws.{back_in_range}
-use Rattle.exact_num.proofs.StepLaws.{all_fit-nil}
+use Rattle.int_tableau.proofs.Common.{◌≡◌, ◌≢◌, ℤ, pos, Bool, sym, ap, ap₂, ◌∙◌, subst, to_z, of_z, w128, err_from_is_err_and, InRange, all_fit, back_in_range, all_fit-nil}
 use Rattle.written_method.specs.Lines.{numbers_of, line_less, all_less_formed, lowest_line, factor_of, cleared_formed}
 use Rattle.int_tableau.proofs.LineLaws.{refused-more, cleared-some, cleared_formed-some, cleared_formed-none}
 use Rattle.int_tableau.proofs.line.SparseLine.clear.Goals as goal

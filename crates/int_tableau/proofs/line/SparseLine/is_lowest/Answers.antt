@@ -1,10 +1,6 @@
 -- The divisor of right side and own entry first, and then of the entries.
-use Rattle.std.proofs.Common.{◌≡◌, ◌∷◌, ℕ, ℤ, List, sym, ap, ap₂, ◌∙◌, to_z, of_z}
-use Rattle.std.specs.Int.{w128}
-use Rattle.exact_num.specs.Formed.{common}
-use Rattle.exact_num.proofs.RangeLaws.{back_in_range}
+use Rattle.int_tableau.proofs.Common.{◌≡◌, ◌∷◌, ℕ, ℤ, List, sym, ap, ap₂, ◌∙◌, to_z, of_z, w128, common, back_in_range, row_divisor}
 use Rattle.row_core.specs.Numbers.{numbers_of as numbers_in}
-use Rattle.row_core.specs.Written.{row_divisor}
 use Rattle.written_method.specs.Lines.{Line, numbers_of}
 use Rattle.int_tableau.proofs.LineLaws.{row_divisor-seen}
 use Rattle.int_tableau.proofs.SizeLaws.{divisor-joined}

@@ -1,8 +1,4 @@
-use Rattle.std.proofs.Common.{◌≡◌, ◌-◌, Some, sym, ◌∙◌, subst}
-use Rattle.exact_num.specs.Range.{InRange}
-use Rattle.exact_num.proofs.RangeLaws.{back_in_range}
-use Rattle.int_tableau.specs.Entries.{at}
-use Rattle.int_tableau.specs.LineView.{AreLast}
+use Rattle.int_tableau.proofs.Common.{◌≡◌, ◌-◌, Some, sym, ◌∙◌, subst, InRange, back_in_range, at, AreLast}
 use Rattle.int_tableau.proofs.LastLaws.{last_column}
 use Rattle.int_tableau.proofs.NarrowLaws.{back_widened, narrow_fits}
 use Rattle.int_tableau.proofs.line.SparseLine.last_entry.Goals as goal

@@ -1,6 +1,4 @@
-use Rattle.std.proofs.Common.{◌≡◌, ℕ, ℤ, true, List, sym, subst}
-use Rattle.exact_num.specs.Range.{all_fit}
-use Rattle.row_core.specs.Numbers.{numbers_of}
+use Rattle.int_tableau.proofs.Common.{◌≡◌, ℕ, ℤ, true, List, sym, subst, all_fit, numbers_of}
 use Rattle.int_tableau.proofs.DivisionLaws.{IsSparse-fit}
 use Rattle.int_tableau.proofs.line.SparseLine.new.Goals as goal
 

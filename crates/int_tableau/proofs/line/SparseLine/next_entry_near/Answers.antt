@@ -1,9 +1,4 @@
-use Rattle.std.proofs.Common.{◌≡◌, ◌≤◌, ℕ, ℤ, Option, Some, None, drop, refl, sym, ap, ◌∙◌, subst}
-use Rattle.std.specs.Prelude.{IfSome, IfNone}
-use Rattle.written_method.specs.Lines.{Line, entry_of}
-use Rattle.int_tableau.specs.Entries.{at, IsSparse, first_of}
-use Rattle.int_tableau.specs.LineView.{line_seen}
-use Rattle.int_tableau.specs.NextEntries.{IsNextEntry}
+use Rattle.int_tableau.proofs.Common.{◌≡◌, ◌≤◌, ℕ, ℤ, Option, Some, None, drop, refl, sym, ap, ◌∙◌, subst, IfSome, IfNone, Line, entry_of, at, IsSparse, first_of, line_seen, IsNextEntry}
 use Rattle.int_tableau.proofs.LineLaws.{next-none, next-some}
 use Rattle.int_tableau.proofs.line.SparseLine.next_entry_near.Goals as goal
 

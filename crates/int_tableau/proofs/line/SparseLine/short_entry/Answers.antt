@@ -1,5 +1,4 @@
-use Rattle.std.proofs.Common.{◌≡◌, sym, ◌∙◌, subst}
-use Rattle.std.specs.Prelude.{IfSome}
+use Rattle.int_tableau.proofs.Common.{◌≡◌, sym, ◌∙◌, subst, IfSome}
 use Rattle.int_tableau.proofs.MarkLaws.{unmarked}
 use Rattle.int_tableau.proofs.LastLaws.{in_column}
 use Rattle.int_tableau.proofs.line.SparseLine.short_entry.Goals as goal

@@ -1,8 +1,4 @@
-use Rattle.std.proofs.Common.{◌<◌, ◌^◌, Some, length, ap, ◌∙◌, subst, arith}
-use Rattle.std.specs.Prelude.{unsigned_abs}
-use Rattle.exact_num.proofs.RangeLaws.{back_in_range}
-use Rattle.written_method.specs.Lines.{Line}
-use Rattle.int_tableau.specs.LineView.{AreLast}
+use Rattle.int_tableau.proofs.Common.{◌<◌, ◌^◌, Some, length, ap, ◌∙◌, subst, arith, unsigned_abs, back_in_range, Line, AreLast}
 use Rattle.int_tableau.proofs.LastLaws.{last_column}
 use Rattle.int_tableau.proofs.NarrowLaws.{back_narrow, back_narrowed}
 use Rattle.int_tableau.proofs.line.SparseLine.short_numbers.Goals as goal

@@ -1,6 +1,5 @@
-use Rattle.std.proofs.Common.{subst}
+use Rattle.int_tableau.proofs.Common.{subst, AreWithin}
 use Rattle.written_method.specs.Lines.{Line, numbers_of}
-use Rattle.int_tableau.specs.Sizes.{AreWithin}
 use Rattle.int_tableau.proofs.SizeLaws.{line-within}
 use Rattle.int_tableau.proofs.line.SparseLine.size.Goals as goal
 

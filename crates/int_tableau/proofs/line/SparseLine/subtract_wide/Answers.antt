@@ -1,12 +1,6 @@
 -- The entries, the right side and the own entry, each by the same rule.
-use Rattle.std.proofs.Common.{◌≡◌, ◌<◌, ℕ, ℤ, Bool, true, false, List, sym, ap, ap₂, ◌∙◌, subst, to_z, of_z, zero-add}
-use Rattle.std.specs.Int.{w128}
-use Rattle.std.proofs.lemmas.Result.{err_from_is_err_and}
-use Rattle.exact_num.specs.Range.{InRange, all_fit}
-use Rattle.exact_num.proofs.RangeLaws.{back_in_range}
+use Rattle.int_tableau.proofs.Common.{◌≡◌, ◌<◌, ℕ, ℤ, Bool, true, false, List, sym, ap, ap₂, ◌∙◌, subst, to_z, of_z, zero-add, w128, err_from_is_err_and, InRange, all_fit, back_in_range, at, IsSparse, line_seen}
 use Rattle.written_method.specs.Lines.{Line, numbers_of, less, less_formed, line_less, all_less_formed, lowest_line}
-use Rattle.int_tableau.specs.Entries.{at, IsSparse}
-use Rattle.int_tableau.specs.LineView.{line_seen}
 use Rattle.int_tableau.proofs.DivisionLaws.{IsSparse-fit}
 use Rattle.int_tableau.proofs.LineLaws.{same_columns, other_seen, spread-wide, spread-fit, line_less-seen, line_wide-entries, line_wide-right, line_wide-own, line_fits-all, entries-refused}
 use Rattle.int_tableau.proofs.line.SparseLine.subtract_wide.Goals as goal

@@ -1,6 +1,4 @@
-use Rattle.std.proofs.Common.{sym, ◌∙◌}
-use Rattle.std.specs.Int.{w64}
-use Rattle.std.proofs.lemmas.Int.{to_z-of_z}
+use Rattle.int_tableau.proofs.Common.{sym, ◌∙◌, w64, to_z-of_z}
 use Rattle.int_tableau.proofs.GuessLaws.{guessed_quotient}
 use Rattle.int_tableau.proofs.NarrowLaws.{back_narrow}
 use Rattle.int_tableau.proofs.narrow_division.Divisor.quotient.Goals as goal

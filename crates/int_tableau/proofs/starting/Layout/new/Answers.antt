@@ -1,12 +1,5 @@
 -- One variable after another.
-use Rattle.std.proofs.Common.{◌≡◌, ◌+◌, ◌<◌, ◌≤◌, ◌^◌, ◌++◌, ℕ, Bool, true, false, IsTrue, List, length, get_or, drop, if◌then◌else◌, sym, ap, ◌∙◌, subst, arith}
-use Rattle.std.proofs.lemmas.List.{get_or_default}
-use Rattle.row_core.specs.declared.Var.{Var}
-use Rattle.row_core.specs.Numbers.{keys_of, ascends}
-use Rattle.row_core.specs.Order.{var_cmp}
-use Rattle.written_method.specs.FirstTableau.{width_of}
-use Rattle.written_method.specs.Programs.{is_split}
-use Rattle.int_tableau.specs.Starts.{after_columns, placed}
+use Rattle.int_tableau.proofs.Common.{◌≡◌, ◌+◌, ◌<◌, ◌≤◌, ◌^◌, ◌++◌, ℕ, Bool, true, false, IsTrue, List, length, get_or, drop, if◌then◌else◌, sym, ap, ◌∙◌, subst, arith, get_or_default, Var, keys_of, ascends, var_cmp, width_of, is_split, after_columns, placed}
 use Rattle.int_tableau.proofs.LoopLaws.{placed-step, placed-end, width-step, width-end}
 use Rattle.int_tableau.proofs.LoopLaws.{no_variable}
 use Rattle.int_tableau.proofs.PlaceLaws.{keys-placed}

@@ -1,7 +1,5 @@
 -- The places so far, and those of the variables that are left.
-use Rattle.std.proofs.Common.{◌≡◌, ◌+◌, ◌++◌, drop}
-use Rattle.written_method.specs.FirstTableau.{width_of}
-use Rattle.int_tableau.specs.Starts.{placed}
+use Rattle.int_tableau.proofs.Common.{◌≡◌, ◌+◌, ◌++◌, drop, width_of, placed}
 use Rattle.int_tableau.proofs.starting.Layout.new.Given as goal
 
 abbrev pub invariant-loop-variable : goal.invariant-loop-variable

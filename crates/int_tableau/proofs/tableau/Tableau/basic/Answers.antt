@@ -1,5 +1,4 @@
-use Rattle.std.proofs.Common.{◌<◌, ℕ, List, length, get_or, sym, subst}
-use Rattle.int_tableau.specs.Counted.{Counted}
+use Rattle.int_tableau.proofs.Common.{◌<◌, ℕ, List, length, get_or, sym, subst, Counted}
 use Rattle.int_tableau.proofs.TableauLaws.{AreBelow-at}
 use Rattle.int_tableau.proofs.tableau.Tableau.basic.Goals as goal
 

@@ -1,6 +1,4 @@
-use Rattle.std.proofs.Common.{◌≡◌, ◌<◌, length, subst}
-use Rattle.written_method.specs.Tableaus.{line_of, no_line}
-use Rattle.int_tableau.specs.Counted.{Counted}
+use Rattle.int_tableau.proofs.Common.{◌≡◌, ◌<◌, length, subst, line_of, no_line, Counted}
 use Rattle.int_tableau.proofs.ListLaws.{HaveColumns-at}
 use Rattle.int_tableau.proofs.tableau.Tableau.columns.Goals as goal
 

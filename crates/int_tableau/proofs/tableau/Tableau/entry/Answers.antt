@@ -1,6 +1,4 @@
-use Rattle.std.proofs.Common.{◌≡◌, ◌<◌, List, length, sym, ap, ◌∙◌, subst}
-use Rattle.written_method.specs.Lines.{Line}
-use Rattle.int_tableau.specs.Counted.{Counted}
+use Rattle.int_tableau.proofs.Common.{◌≡◌, ◌<◌, List, length, sym, ap, ◌∙◌, subst, Line, Counted}
 use Rattle.int_tableau.proofs.ListLaws.{HaveColumns-at}
 use Rattle.int_tableau.proofs.tableau.Tableau.entry.Goals as goal
 

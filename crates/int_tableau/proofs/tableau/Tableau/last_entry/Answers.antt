@@ -1,10 +1,4 @@
-use Rattle.std.proofs.Common.{◌≡◌, ◌<◌, ◌-◌, ℕ, List, length, sym, ap, ap₂, ◌∙◌, subst}
-use Rattle.std.proofs.lemmas.List.{get_or_default}
-use Rattle.exact_num.specs.Range.{InRange}
-use Rattle.exact_num.proofs.RangeLaws.{back_in_range}
-use Rattle.written_method.specs.Lines.{Line, entry_of}
-use Rattle.written_method.specs.Tableaus.{line_of, no_line}
-use Rattle.int_tableau.specs.Counted.{Counted}
+use Rattle.int_tableau.proofs.Common.{◌≡◌, ◌<◌, ◌-◌, ℕ, List, length, sym, ap, ap₂, ◌∙◌, subst, get_or_default, InRange, back_in_range, Line, entry_of, line_of, no_line, Counted}
 use Rattle.int_tableau.proofs.ListLaws.{HaveColumns-at}
 use Rattle.int_tableau.proofs.tableau.Tableau.last_entry.Goals as goal
 

@@ -1,11 +1,5 @@
-use Rattle.std.proofs.Common.{◌≡◌, ◌<◌, ◌↔◌, ℕ, pos, List, length, get_or, set, neg_ℤ, sym, ap, ◌∙◌, subst, arith}
-use Rattle.std.proofs.Math.ListN.{length-set}
-use Rattle.written_method.specs.Lines.{Line}
-use Rattle.std.proofs.lemmas.List.{get_or_default}
-use Rattle.written_method.specs.Meaning.{Solves}
+use Rattle.int_tableau.proofs.Common.{◌≡◌, ◌<◌, ◌↔◌, ℕ, pos, List, length, get_or, set, neg_ℤ, sym, ap, ◌∙◌, subst, arith, length-set, Line, get_or_default, Solves, IsShaped-negated, Counted, negated_in}
 use Rattle.written_method.specs.Tableaus.{Tableau as Written, no_line, negated_line}
-use Rattle.written_method.proofs.DroppedLaws.{IsShaped-negated}
-use Rattle.int_tableau.specs.Counted.{Counted, negated_in}
 use Rattle.int_tableau.proofs.ListLaws.{HaveColumns-at, HaveColumns-set}
 use Rattle.int_tableau.proofs.TableauLaws.{length-map, IsShaped-of}
 use Rattle.int_tableau.proofs.SolutionLaws.{Solves-negated}

@@ -1,12 +1,6 @@
 -- The lines, the basic columns and the number of columns are those of the first tableau.
-use Rattle.std.proofs.Common.{◌≡◌, ◌<◌, ◌^◌, List, length, map, sym, ap, ◌∙◌, subst}
-use Rattle.row_core.specs.declared.Row.{Row}
-use Rattle.row_core.specs.Numbers.{keys_of}
-use Rattle.written_method.specs.FirstTableau.{any_negative}
-use Rattle.written_method.specs.Programs.{LinearProgram, inequality_of, program_of}
+use Rattle.int_tableau.proofs.Common.{◌≡◌, ◌<◌, ◌^◌, List, length, map, sym, ap, ◌∙◌, subst, Row, keys_of, any_negative, LinearProgram, inequality_of, program_of, Counted, IsTableau}
 use Rattle.written_method.specs.Tableaus.{Tableau as Written}
-use Rattle.int_tableau.specs.Counted.{Counted}
-use Rattle.int_tableau.specs.Shapes.{IsTableau}
 use Rattle.int_tableau.proofs.StartLaws.{first_basics, first_columns, first_is, first_lines}
 use Rattle.int_tableau.proofs.TableauLaws.{IsTableau-first, length-mapped}
 use Rattle.int_tableau.proofs.tableau.Tableau.new.Goals as goal

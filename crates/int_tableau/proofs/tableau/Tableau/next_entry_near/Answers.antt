@@ -1,8 +1,5 @@
 -- A line has as many entries as there are columns.
-use Rattle.std.proofs.Common.{◌≡◌, ◌<◌, ◌^◌, ◌∙◌, List, length, sym, ap, subst, arith}
-use Rattle.std.proofs.lemmas.Option.{IfSome_then}
-use Rattle.written_method.specs.Lines.{Line}
-use Rattle.int_tableau.specs.Counted.{Counted}
+use Rattle.int_tableau.proofs.Common.{◌≡◌, ◌<◌, ◌^◌, ◌∙◌, List, length, sym, ap, subst, arith, IfSome_then, Line, Counted}
 use Rattle.int_tableau.proofs.ListLaws.{HaveColumns-at}
 use Rattle.int_tableau.proofs.tableau.Tableau.next_entry_near.Goals as goal
 

@@ -1,15 +1,7 @@
 -- The other lines are cleared, and the counted pivot gives the place.
-use Rattle.std.proofs.Common.{◌≡◌, ◌<◌, ◌↔◌, ◌∙◌, ℕ, pos, List, length, get_or, set, sym, ap, subst, arith}
-use Rattle.std.specs.Prelude.{◌<ℤ◌}
-use Rattle.std.proofs.Math.ListN.{length-set}
-use Rattle.written_method.specs.Basis.{IsShaped}
-use Rattle.written_method.specs.Lines.{Line, entry_of}
+use Rattle.int_tableau.proofs.Common.{◌≡◌, ◌<◌, ◌↔◌, ◌∙◌, ℕ, pos, List, length, get_or, set, sym, ap, subst, arith, ◌<ℤ◌, length-set, IsShaped, Line, entry_of, Solves, Solves-pivoted, Solves-before, HaveColumns, Counted}
 use Rattle.written_method.specs.Tableaus.{Tableau as Written, no_line, line_of, pivoted}
-use Rattle.written_method.specs.Meaning.{Solves}
 use Rattle.written_method.proofs.BasisLaws.{IsShaped-pivoted}
-use Rattle.written_method.proofs.PivotLaws.{Solves-pivoted, Solves-before}
-use Rattle.int_tableau.specs.Shapes.{HaveColumns}
-use Rattle.int_tableau.specs.Counted.{Counted}
 use Rattle.int_tableau.proofs.ListLaws.{HaveColumns-at}
 use Rattle.int_tableau.proofs.TableauLaws.{HaveColumns-pivoted, AreBelow-set, length-pivoted, IsShaped-of}
 use Rattle.int_tableau.proofs.tableau.Tableau.pivot.Goals as goal

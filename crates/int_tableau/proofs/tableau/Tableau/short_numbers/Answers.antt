@@ -1,9 +1,4 @@
-use Rattle.std.proofs.Common.{◌≡◌, ◌<◌, List, length, sym, ap, ◌∙◌, subst}
-use Rattle.std.specs.Prelude.{IfSome}
-use Rattle.std.proofs.lemmas.List.{get_or_default}
-use Rattle.written_method.specs.Lines.{Line}
-use Rattle.written_method.specs.Tableaus.{line_of, no_line}
-use Rattle.int_tableau.specs.Counted.{Counted}
+use Rattle.int_tableau.proofs.Common.{◌≡◌, ◌<◌, List, length, sym, ap, ◌∙◌, subst, IfSome, get_or_default, Line, line_of, no_line, Counted}
 use Rattle.int_tableau.specs.Shorts.{AreOf}
 use Rattle.int_tableau.proofs.ListLaws.{HaveColumns-at}
 use Rattle.int_tableau.proofs.tableau.Tableau.short_numbers.Goals as goal

@@ -1,13 +1,6 @@
-use Rattle.std.proofs.Common.{◌≡◌, ◌<◌, ℕ, pos, List, length, get_or, set, neg_ℤ, sym, ap, ◌∙◌, subst, arith}
-use Rattle.std.proofs.Math.ListN.{length-set}
-use Rattle.std.proofs.lemmas.List.Edits.{length-swap}
-use Rattle.written_method.specs.Lines.{Line}
-use Rattle.int_tableau.specs.Counted.{Counted}
-use Rattle.int_tableau.specs.Shapes.{HaveColumns, AreBelow}
+use Rattle.int_tableau.proofs.Common.{◌≡◌, ◌<◌, ℕ, pos, List, length, get_or, set, neg_ℤ, sym, ap, ◌∙◌, subst, arith, length-set, length-swap, Line, Counted, HaveColumns, AreBelow, get_or_default, no_line}
 use Rattle.int_tableau.proofs.ListLaws.{HaveColumns-at, HaveColumns-set}
 use Rattle.int_tableau.proofs.TableauLaws.{length-map}
-use Rattle.std.proofs.lemmas.List.{get_or_default}
-use Rattle.written_method.specs.Tableaus.{no_line}
 use Rattle.int_tableau.proofs.SwapLaws.{HaveColumns-swap, AreBelow-swap, owns-set, owns-swap}
 use Rattle.int_tableau.proofs.tableau.Tableau.swapped.Goals as goal
 

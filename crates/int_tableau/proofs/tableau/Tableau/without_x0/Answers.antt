@@ -1,10 +1,5 @@
-use Rattle.std.proofs.Common.{◌≡◌, ◌<◌, ◌↔◌, ℕ, ◌+◌, ◌-◌, ◌^◌, List, length, get_or, map, take, sym, ap, ◌∙◌, subst, arith}
-use Rattle.written_method.specs.Lines.{Line}
-use Rattle.written_method.specs.Meaning.{Solves}
+use Rattle.int_tableau.proofs.Common.{◌≡◌, ◌<◌, ◌↔◌, ℕ, ◌+◌, ◌-◌, ◌^◌, List, length, get_or, map, take, sym, ap, ◌∙◌, subst, arith, Line, Solves, line_of-without, HaveColumns, HaveSome, IsNowhere, Counted, shortened, SolvesWithout}
 use Rattle.written_method.specs.Tableaus.{Tableau as Written, no_line, without_last, without_x0}
-use Rattle.written_method.proofs.DroppedLaws.{line_of-without}
-use Rattle.int_tableau.specs.Shapes.{HaveColumns, HaveSome, IsNowhere}
-use Rattle.int_tableau.specs.Counted.{Counted, shortened, SolvesWithout}
 use Rattle.int_tableau.proofs.TableauLaws.{HaveColumns-take, HaveSome-of, HaveColumns-without_last, AreBelow-nowhere, length-taken, length-mapped, IsShaped-of}
 use Rattle.int_tableau.proofs.SolutionLaws.{Solves-without}
 use Rattle.int_tableau.proofs.tableau.Tableau.without_x0.Goals as goal

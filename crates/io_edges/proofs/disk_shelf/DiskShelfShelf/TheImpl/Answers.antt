@@ -1,5 +1,4 @@
-use Rattle.std.proofs.Common.{refl, arith}
-use Rattle.std.proofs.lemmas.Grind.{common_steps}
+use Rattle.io_edges.proofs.Common.{refl, arith, common_steps}
 use Rattle.io_edges.proofs.disk_shelf.DiskShelfShelf.TheImpl.Goals as goal
 
 pub begin-tells : goal.begin-tells

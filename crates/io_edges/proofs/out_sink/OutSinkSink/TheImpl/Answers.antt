@@ -1,5 +1,4 @@
-use Rattle.std.proofs.Common.{arith}
-use Rattle.std.proofs.lemmas.Grind.{common_steps}
+use Rattle.io_edges.proofs.Common.{arith, common_steps}
 use Rattle.io_edges.proofs.out_sink.OutSinkSink.TheImpl.Goals as goal
 
 pub write-tells : goal.write-tells

@@ -1,35 +1,5 @@
 -- An empty body. The borrow is opened and closed at another ghost value.
-use Rattle.std.proofs.Common.{ℕ, ◌<◌, ◌^◌, List, [], ◌∷◌, ◌++◌, length, take, refl, MutBor, w64}
-use seplogic.Ra.Ura.{Ura}
-use mir.Syntax.{named}
-use mir.Val.{Val, vunit, vptr, vint}
-use base.Logic.{SProp, ent, sep, emp, via, fst∗, id⊢}
-use base.Fml.{Fml, GName, Lft, Share, ftrue, flft, fobs, fbor}
-use prog.Memory.{Memory}
-use prog.Routine.{Routine}
-use prog.Wp.{Calls, Loops, WpFn, Tables}
-use types.Logic.{Logic, sem}
-use contract.Monad.{Fun}
-use contract.Running.{tables, tables_of}
-use types.Kit.{‵, ◌⊛◌, ◌$◌, ◌∵◌, !, qed, by, move, keep, drop, use1, split, join, fsplit, fsplit3, fjoin, fjoin3, feq_i, suffices, frame, done}
-use types.Run.{unit_lit, of_opd, returns, enter}
-use types.SemTy.{Body}
-use types.ByLocal.{alloc_all, pass_all, free_all, look_at, sets}
-use sound.WpLaws.{WpFn-mono}
-use denote.RattleType.{owns}
-use denote.Memory.{mem}
-use denote.Ref.{Bor, MutRef, mut_vals, mut_Tells}
-use denote.Builtin.{u8, usize}
-use denote.Exit.{yes}
-use denote.Plain.{uint_vals, uint_Tells}
-use denote.Signature.{plain}
-use denote.Slice.{ShrSlice, slice_val, shr_slice_vals, shr_slice_Tells}
-use denote.Steps.{nothing, opens, closes}
-use denote.Triple.Entry.{on_entry}
-use denote.Triple.Spec.{Meets, triple_of}
-use denote.Triple.Table.{entered}
-use denote.Triple.Walked.{says, Stays, stay_ref, stay_none_slice, stay_dropped, walk_of, AllGo, Goes-ref, Goes-none_slice, Goes-dropped, Walks, ends_at, walked, walk_Meets}
-use Rattle.io_edges.specs.declared.records.WriteRecord.{WriteRecord}
+use Rattle.io_edges.proofs.Common.{ℕ, ◌<◌, ◌^◌, List, [], ◌∷◌, ◌++◌, length, take, refl, MutBor, w64, Ura, named, Val, vunit, vptr, vint, SProp, ent, sep, emp, via, fst∗, id⊢, Fml, GName, Lft, Share, ftrue, flft, fobs, fbor, Memory, Routine, Calls, Loops, WpFn, Tables, Logic, sem, Fun, tables, tables_of, ‵, ◌⊛◌, ◌$◌, ◌∵◌, !, qed, by, move, keep, drop, use1, split, join, fsplit, fsplit3, fjoin, fjoin3, feq_i, suffices, frame, done, unit_lit, of_opd, returns, enter, Body, alloc_all, pass_all, free_all, look_at, sets, WpFn-mono, owns, mem, Bor, MutRef, mut_vals, mut_Tells, u8, usize, yes, uint_vals, uint_Tells, plain, ShrSlice, slice_val, shr_slice_vals, shr_slice_Tells, nothing, opens, closes, on_entry, Meets, triple_of, entered, says, Stays, stay_ref, stay_none_slice, stay_dropped, walk_of, AllGo, Goes-ref, Goes-none_slice, Goes-dropped, Walks, ends_at, walked, walk_Meets, WriteRecord}
 use Rattle.io_edges.specs.contracts.records.WriteRecord as T
 use Rattle.io_edges.specs.contracts.records.WriteRecord.note_write.Key.{name as #it}
 use Rattle.io_edges.specs.contracts.records.WriteRecord.note_write as it

@@ -1,10 +1,6 @@
-use Rattle.std.proofs.Common.{◌≡◌, true, ap, ◌∙◌, sym}
+use Rattle.mathprog_data.proofs.Common.{◌≡◌, true, ap, ◌∙◌, sym, Token, is_separator, token_of, passed, run, and_then}
 use Rattle.mathprog_data.specs.declared.lexer.Kind.TheVariants.{Bare}
-use Rattle.mathprog_data.specs.declared.lexer.Seen.TheVariants.{Token}
 use Rattle.mathprog_data.specs.declared.lexer.pending.Pending.TheVariants as pendings
-use Rattle.mathprog_data.specs.LexingBytes.{is_separator}
-use Rattle.mathprog_data.specs.LexingMachine.{token_of, passed}
-use Rattle.mathprog_data.specs.LexingRuns.{run, and_then}
 use Rattle.mathprog_data.proofs.LexingQuiet.{run_ended}
 use Rattle.mathprog_data.proofs.lexer.Lexer.end_symbol.Goals as goal
 

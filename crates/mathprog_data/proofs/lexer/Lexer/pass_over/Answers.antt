@@ -1,7 +1,5 @@
-use Rattle.std.proofs.Common.{◌≡◌, true, ap, ◌∙◌, rules, sym}
+use Rattle.mathprog_data.proofs.Common.{◌≡◌, true, ap, ◌∙◌, rules, sym, is_symbol_byte, run}
 use Rattle.mathprog_data.specs.declared.lexer.pending.Pending.TheVariants as pendings
-use Rattle.mathprog_data.specs.LexingBytes.{is_symbol_byte}
-use Rattle.mathprog_data.specs.LexingRuns.{run}
 use Rattle.mathprog_data.proofs.LexingQuiet.{run_begun, run_symbol}
 use Rattle.mathprog_data.proofs.lexer.Lexer.pass_over.Goals as goal
 

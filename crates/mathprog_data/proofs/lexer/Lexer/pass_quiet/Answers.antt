@@ -1,6 +1,4 @@
-use Rattle.std.proofs.Common.{◌≡◌, Some, ap, ◌∙◌, sym}
-use Rattle.mathprog_data.specs.LexingMachine.{quiet}
-use Rattle.mathprog_data.specs.LexingRuns.{run}
+use Rattle.mathprog_data.proofs.Common.{◌≡◌, Some, ap, ◌∙◌, sym, quiet, run}
 use Rattle.mathprog_data.proofs.LexingQuiet.{run_quiet}
 use Rattle.mathprog_data.proofs.lexer.Lexer.pass_quiet.Goals as goal
 

@@ -1,8 +1,5 @@
-use Rattle.std.proofs.Common.{◌≡◌, ◌++◌, drop, take, ap, ◌∙◌, sym}
+use Rattle.mathprog_data.proofs.Common.{◌≡◌, ◌++◌, drop, take, ap, ◌∙◌, sym, symbols_passed, run, place_after}
 use Rattle.mathprog_data.specs.declared.lexer.pending.Pending.TheVariants as pendings
-use Rattle.mathprog_data.specs.LexingMachine.{symbols_passed}
-use Rattle.mathprog_data.specs.LexingRuns.{run}
-use Rattle.mathprog_data.specs.Places.{place_after}
 use Rattle.mathprog_data.proofs.LexingSymbols.{run_symbols, place_symbols, further}
 use Rattle.mathprog_data.proofs.lexer.Lexer.pass_symbol.Goals as goal
 

@@ -1,6 +1,4 @@
-use Rattle.std.proofs.Common.{arith, ◌∙◌, sym}
-use Rattle.std.proofs.lemmas.List.Sums.{prefix_len-drop_yes, prefix_len-drop_no, prefix_len-drop_all}
-use Rattle.mathprog_data.specs.LexingBytes.{is_symbol_byte}
+use Rattle.mathprog_data.proofs.Common.{arith, ◌∙◌, sym, prefix_len-drop_yes, prefix_len-drop_no, prefix_len-drop_all, is_symbol_byte}
 use Rattle.mathprog_data.proofs.lexer.bytes.symbol_length.Goals as goal
 
 pub returns-then-not-is_symbol_byte-clause-count : goal.returns-then-not-is_symbol_byte-clause-count

@@ -1,6 +1,4 @@
-use Rattle.std.proofs.Common.{◌≡◌, ◌+◌, drop}
-use Rattle.std.specs.List.{prefix_len}
-use Rattle.mathprog_data.specs.LexingBytes.{is_symbol_byte}
+use Rattle.mathprog_data.proofs.Common.{◌≡◌, ◌+◌, drop, prefix_len, is_symbol_byte}
 use Rattle.mathprog_data.proofs.lexer.bytes.symbol_length.Given as goal
 
 abbrev pub invariant-loop-i : goal.invariant-loop-i

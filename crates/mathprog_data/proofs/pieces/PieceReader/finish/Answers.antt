@@ -1,11 +1,4 @@
-use Rattle.std.proofs.Common.{◌≡◌, ℕ, List, length, sym, subst}
-use Rattle.std.proofs.lemmas.Result.{IfOk-weaker}
-use Rattle.mathprog_data.specs.BlocksView.{blocks_told}
-use Rattle.mathprog_data.specs.PieceStages.{standing_of}
-use Rattle.mathprog_data.specs.Pieces.{IsKnownOf, StandsFor}
-use Rattle.mathprog_data.specs.ReadingRuns.{Reads, outcome_of}
-use Rattle.mathprog_data.specs.Verdicts.{Says}
-use Rattle.mathprog_data.specs.WellFormed.{AreWellFormed}
+use Rattle.mathprog_data.proofs.Common.{◌≡◌, ℕ, List, length, sym, subst, IfOk-weaker, blocks_told, standing_of, IsKnownOf, StandsFor, Reads, outcome_of, Says, AreWellFormed}
 use Rattle.mathprog_data.proofs.StatementLawsHold.{statement_laws}
 use Rattle.mathprog_data.proofs.VerdictLaws.{reads_says, refuses_fault}
 use Rattle.mathprog_data.proofs.ReadingLaws.{ReadsExactly, RefusesExactly, says_well, refuses_no_blocks, refuses_each_fault}

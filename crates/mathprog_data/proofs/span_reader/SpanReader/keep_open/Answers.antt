@@ -1,6 +1,4 @@
-use Rattle.std.proofs.Common.{◌≡◌, ◌-◌, ◌++◌, length, slice_range, sym, ap, subst, ◌∙◌, arith}
-use Rattle.std.proofs.lemmas.Result.{on_ok_weaker}
-use Rattle.mathprog_data.specs.PieceRuns.{IfEarlier}
+use Rattle.mathprog_data.proofs.Common.{◌≡◌, ◌-◌, ◌++◌, length, slice_range, sym, ap, subst, ◌∙◌, arith, on_ok_weaker, IfEarlier}
 use Rattle.mathprog_data.proofs.PieceLemmas.{appended, rest_shown}
 use Rattle.mathprog_data.proofs.span_reader.SpanReader.keep_open.Goals as goal
 

@@ -1,5 +1,4 @@
-use Rattle.std.proofs.Common.{◌≡◌, ◌+◌, ◌-◌, ◌++◌, ℕ, List, Some, length, take, slice_range, sym, ap, ◌∙◌, arith}
-use Rattle.mathprog_data.specs.PieceRuns.{IsShown}
+use Rattle.mathprog_data.proofs.Common.{◌≡◌, ◌+◌, ◌-◌, ◌++◌, ℕ, List, Some, length, take, slice_range, sym, ap, ◌∙◌, arith, IsShown}
 use Rattle.mathprog_data.proofs.PieceLemmas.{kept_and_piece, length_both}
 use Rattle.mathprog_data.proofs.span_reader.SpanReader.take_cut_token.Goals as goal
 use Rattle.mathprog_data.proofs.span_reader.SpanReader.take_cut_token.Goals.{After-as_slice}

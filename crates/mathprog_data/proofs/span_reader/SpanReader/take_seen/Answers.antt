@@ -1,6 +1,4 @@
-use Rattle.std.proofs.Common.{ap, subst, ◌∙◌}
-use Rattle.mathprog_data.specs.LexingRuns.{and_then}
-use Rattle.mathprog_data.specs.PieceRuns.{outcome_after, seen_from, IsShown}
+use Rattle.mathprog_data.proofs.Common.{ap, subst, ◌∙◌, and_then, outcome_after, seen_from, IsShown}
 use Rattle.mathprog_data.proofs.span_reader.SpanReader.take_seen.Goals as goal
 
 pub returns-in-Token-clause-fault : goal.returns-in-Token-clause-fault

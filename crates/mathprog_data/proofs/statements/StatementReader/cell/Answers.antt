@@ -1,10 +1,6 @@
 use Rattle.std.proofs.Common.{◌≢◌, ◌<◌, [], ap, sym, subst, ◌∙◌, length, IfOk, arith}
-use Rattle.std.proofs.lemmas.List.{drop_more}
-use Rattle.mathprog_data.specs.DraftViews.{draft_view}
-use Rattle.mathprog_data.specs.declared.words.Word.TheVariants.{Point}
-use Rattle.mathprog_data.specs.MachineStates.{Turn}
+use Rattle.mathprog_data.proofs.Common.{drop_more, draft_view, Point, Turn, Turned}
 use Rattle.mathprog_data.specs.MachineSteps.{taken}
-use Rattle.mathprog_data.specs.MachineViews.{Turned}
 use Rattle.mathprog_data.specs.SymbolViews.{word_in, number_in}
 use Rattle.mathprog_data.proofs.CellSteps.{cell-point, cell-value}
 use Rattle.mathprog_data.proofs.statements.StatementReader.cell.Goals as goal

@@ -1,5 +1,4 @@
-use Rattle.std.proofs.Common.{◌≡◌, drop}
-use Rattle.std.specs.Str.{all_ascii_digits}
+use Rattle.mathprog_data.proofs.Common.{◌≡◌, drop, all_ascii_digits}
 use Rattle.mathprog_data.proofs.statements.seen.are_digits.Given as goal
 
 abbrev pub invariant-loop-c : goal.invariant-loop-c

@@ -1,5 +1,4 @@
-use Rattle.std.proofs.Common.{◌≡◌, false, drop, ◌++◌}
-use Rattle.mathprog_data.specs.Lexemes.{undoubled}
+use Rattle.mathprog_data.proofs.Common.{◌≡◌, false, drop, ◌++◌, undoubled}
 use Rattle.mathprog_data.proofs.statements.seen.undoubled.Given as goal
 
 abbrev pub invariant-loop-c : goal.invariant-loop-c

@@ -1,5 +1,4 @@
-use Rattle.std.proofs.Common.{◌≡◌, drop}
-use Rattle.mathprog_data.specs.Lexemes.{without_leading_zeros}
+use Rattle.mathprog_data.proofs.Common.{◌≡◌, drop, without_leading_zeros}
 use Rattle.mathprog_data.proofs.statements.seen.without_leading_zeros.Given as goal
 
 abbrev pub invariant-loop-i : goal.invariant-loop-i

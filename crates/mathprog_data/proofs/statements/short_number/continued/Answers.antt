@@ -1,7 +1,4 @@
-use Rattle.std.proofs.Common.{◌≡◌, ◌+◌, ◌*◌, ◌-◌, get_or, drop, arith, ap, sym, ◌∙◌}
-use Rattle.std.proofs.lemmas.List.{at_drop_more, at_drop_all}
-use Rattle.scaled_decimals.specs.Digits.{continued}
-use Rattle.scaled_decimals.proofs.DigitLemmas.{continued-cons, continued-none}
+use Rattle.mathprog_data.proofs.Common.{◌≡◌, ◌+◌, ◌*◌, ◌-◌, get_or, drop, arith, ap, sym, ◌∙◌, at_drop_more, at_drop_all, continued, continued-cons, continued-none}
 use Rattle.mathprog_data.proofs.statements.short_number.continued.Goals as goal
 
 pub loop-digit-preserved : goal.loop-digit-preserved

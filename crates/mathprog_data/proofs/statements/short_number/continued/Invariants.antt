@@ -1,5 +1,4 @@
-use Rattle.std.proofs.Common.{◌≡◌, ◌≤◌, drop}
-use Rattle.scaled_decimals.specs.Digits.{continued}
+use Rattle.mathprog_data.proofs.Common.{◌≡◌, ◌≤◌, drop, continued}
 use Rattle.mathprog_data.proofs.statements.short_number.continued.Given as goal
 
 abbrev pub invariant-loop-digit : goal.invariant-loop-digit

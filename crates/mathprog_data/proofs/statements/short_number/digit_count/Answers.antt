@@ -1,6 +1,4 @@
-use Rattle.std.proofs.Common.{arith, ◌∙◌, sym}
-use Rattle.std.specs.Char.{is_ascii_digit}
-use Rattle.std.proofs.lemmas.List.Sums.{prefix_len-drop_yes, prefix_len-drop_no, prefix_len-drop_all}
+use Rattle.mathprog_data.proofs.Common.{arith, ◌∙◌, sym, is_ascii_digit, prefix_len-drop_yes, prefix_len-drop_no, prefix_len-drop_all}
 use Rattle.mathprog_data.proofs.statements.short_number.digit_count.Goals as goal
 
 pub returns-then-not-is_ascii_digit-clause-count : goal.returns-then-not-is_ascii_digit-clause-count

@@ -1,6 +1,4 @@
-use Rattle.std.proofs.Common.{◌≡◌, ◌+◌, drop}
-use Rattle.std.specs.Char.{is_ascii_digit}
-use Rattle.std.specs.List.{prefix_len}
+use Rattle.mathprog_data.proofs.Common.{◌≡◌, ◌+◌, drop, is_ascii_digit, prefix_len}
 use Rattle.mathprog_data.proofs.statements.short_number.digit_count.Given as goal
 
 abbrev pub invariant-loop-i : goal.invariant-loop-i

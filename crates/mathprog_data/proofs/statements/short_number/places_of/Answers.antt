@@ -1,5 +1,4 @@
-use Rattle.std.proofs.Common.{Some, length, slice_range, arith, refl, sym, ◌∙◌}
-use Rattle.std.proofs.lemmas.Grind.{common_steps}
+use Rattle.mathprog_data.proofs.Common.{Some, length, slice_range, arith, refl, sym, ◌∙◌, common_steps}
 use Rattle.mathprog_data.proofs.ShortNumbers.{point_first}
 use Rattle.mathprog_data.proofs.statements.short_number.places_of.Goals as goal
 

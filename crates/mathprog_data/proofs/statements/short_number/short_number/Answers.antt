@@ -1,12 +1,5 @@
-use Rattle.std.proofs.Common.{◌≡◌, ◌*◌, ◌^◌, ◌<◌, ◌++◌, pos, Some, false, length, take, drop, ap, sym, subst, ◌∙◌, arith, to_z, of_z}
-use Rattle.std.specs.Int.{w128}
-use Rattle.std.proofs.lemmas.Grind.{common_steps}
+use Rattle.mathprog_data.proofs.Common.{◌≡◌, ◌*◌, ◌^◌, ◌<◌, ◌++◌, pos, Some, false, length, take, drop, ap, sym, subst, ◌∙◌, arith, to_z, of_z, w128, common_steps, continued, digits_in_front, after_digits, AreDigits-front, digits-bytes, AreDigits}
 use Rattle.exact_num.proofs.RangeLaws.{back_in_range}
-use Rattle.scaled_decimals.specs.Digits.{continued}
-use Rattle.scaled_decimals.specs.PartsReading.{digits_in_front, after_digits}
-use Rattle.scaled_decimals.proofs.DigitLemmas.{AreDigits-front}
-use Rattle.scaled_decimals.proofs.TextLemmas.{digits-bytes}
-use Rattle.scaled_decimals.specs.Digits.{AreDigits}
 use Rattle.mathprog_data.proofs.ShortNumbers.{short_reading, short_range}
 use Rattle.mathprog_data.proofs.statements.short_number.short_number.Goals as goal
 

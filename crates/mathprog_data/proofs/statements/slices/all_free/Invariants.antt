@@ -1,5 +1,4 @@
-use Rattle.std.proofs.Common.{◌≡◌}
-use Rattle.mathprog_data.specs.Slices.{all_free}
+use Rattle.mathprog_data.proofs.Common.{◌≡◌, all_free}
 use Rattle.mathprog_data.proofs.statements.slices.all_free.Given as goal
 
 abbrev pub invariant-loop : goal.invariant-loop

@@ -1,5 +1,4 @@
-use Rattle.std.proofs.Common.{◌≡◌, ◌+◌, ◌≤◌, drop}
-use Rattle.mathprog_data.specs.Slices.{free_count}
+use Rattle.mathprog_data.proofs.Common.{◌≡◌, ◌+◌, ◌≤◌, drop, free_count}
 use Rattle.mathprog_data.proofs.statements.slices.free_count.Given as goal
 
 abbrev pub invariant-loop-place : goal.invariant-loop-place

@@ -1,6 +1,4 @@
-use Rattle.std.proofs.Common.{rules, ◌≡◌, ◌+◌, ℕ, List, length, slice_range, ◌∙◌}
-use Rattle.mathprog_data.specs.Lexemes.{lexeme_of}
-use Rattle.mathprog_data.specs.LexingRuns.{lexeme_at}
+use Rattle.mathprog_data.proofs.Common.{rules, ◌≡◌, ◌+◌, ℕ, List, length, slice_range, ◌∙◌, lexeme_of, lexeme_at}
 use Rattle.mathprog_data.proofs.PieceLemmas.{lexeme_shown}
 use Rattle.mathprog_data.proofs.token_reader.TokenReader.take.Goals as goal
 use Rattle.mathprog_data.proofs.token_reader.TokenReader.take.Goals.{After-lexeme_between-lexeme}

@@ -1,5 +1,4 @@
-use Rattle.std.proofs.Common.{ap, sym, subst, ◌∙◌, length}
-use Rattle.mathprog_data.specs.ValuesView.{AreKept, all_told}
+use Rattle.mathprog_data.proofs.Common.{ap, sym, subst, ◌∙◌, length, AreKept, all_told}
 use Rattle.mathprog_data.proofs.ValueLemmas.{grown-trans, kept-grown, told-grown}
 use Rattle.mathprog_data.proofs.values.Values.keep_names.Goals as goal
 

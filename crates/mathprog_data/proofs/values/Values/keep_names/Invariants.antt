@@ -1,5 +1,4 @@
-use Rattle.std.proofs.Common.{◌≡◌}
-use Rattle.mathprog_data.specs.ValuesView.{Grown}
+use Rattle.mathprog_data.proofs.Common.{◌≡◌, Grown}
 use Rattle.mathprog_data.proofs.values.Values.keep_names.Given as goal
 
 abbrev pub invariant-loop-i : goal.invariant-loop-i

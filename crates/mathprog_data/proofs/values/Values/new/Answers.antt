@@ -1,5 +1,4 @@
-use Rattle.std.proofs.Common.{subst, sym, length}
-use Rattle.mathprog_data.specs.ValuesView.{AreKept}
+use Rattle.mathprog_data.proofs.Common.{subst, sym, length, AreKept}
 use Rattle.mathprog_data.specs.ValuesView.AreKept.{none}
 use Rattle.mathprog_data.proofs.values.Values.new.Goals as goal
 

@@ -1,8 +1,4 @@
-use Rattle.std.proofs.Common.{rules, ◌≡◌, ◌++◌, ◌∷◌, [], ap, sym, subst, ◌∙◌, length, to_z, of_z}
-use Rattle.std.specs.Int.{w128}
-use Rattle.mathprog_data.specs.Tables.{cell_index}
-use Rattle.mathprog_data.specs.ValuesView.{AreKept, all_told, kept_told, names_at, places_in}
-use Rattle.mathprog_data.specs.declared.name_places.KeptValue.{KeptValue}
+use Rattle.mathprog_data.proofs.Common.{rules, ◌≡◌, ◌++◌, ◌∷◌, [], ap, sym, subst, ◌∙◌, length, to_z, of_z, w128, cell_index, AreKept, all_told, kept_told, names_at, places_in, KeptValue}
 use Rattle.mathprog_data.proofs.ValueLemmas.{kept-grown, kept-pushed, told-more}
 use Rattle.mathprog_data.proofs.values.Values.push_cell.Goals as goal
 

@@ -1,7 +1,5 @@
 -- A record is written as by a writer in the default form.
-use Rattle.std.proofs.Common.{◌≢◌, true}
-use Rattle.csv.specs.Records.{fields_of}
-use Rattle.csv.specs.Writing.{default_writer, writer_setup}
+use Rattle.plan_files.proofs.Common.{◌≢◌, true, fields_of, default_writer, writer_setup}
 use Rattle.csv.specs.declared.writer.QuoteStyle.TheVariants as style
 use Rattle.plan_files.proofs.WriterLaws.{row-same}
 use Rattle.plan_files.proofs.lines.Lines.push.Goals.{in-Ok, in-Err}

@@ -1,8 +1,5 @@
 -- The terms from here on make of the left side what all of them make of the first.
-use Rattle.std.proofs.Common.{◌≡◌, ℕ}
-use Rattle.row_core.specs.declared.Var.{Var}
-use Rattle.row_core.specs.Amounts.{Amount}
-use Rattle.row_core.specs.Repeated.{GivesTerms}
+use Rattle.row_core.proofs.Common.{◌≡◌, ℕ, Var, Amount, GivesTerms}
 use Rattle.row_core.proofs.RepeatedLaws.{with_rest_of_all}
 use Rattle.row_core.proofs.left_side.LeftSide.add_each.Given as goal
 

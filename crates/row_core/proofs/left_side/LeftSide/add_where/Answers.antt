@@ -1,7 +1,5 @@
 -- One position after another.
-use Rattle.std.proofs.Common.{◌+◌, refl, sym, ap, ◌∙◌, subst}
-use Rattle.row_core.specs.Calculated.{Side}
-use Rattle.row_core.specs.Repeated.{IsTermWhere}
+use Rattle.row_core.proofs.Common.{◌+◌, refl, sym, ap, ◌∙◌, subst, Side, IsTermWhere}
 use Rattle.row_core.proofs.RepeatedLaws.{with_rest, chosen-begin, chosen-step, chosen-skip, chosen-end}
 use Rattle.row_core.proofs.left_side.LeftSide.add_where.Goals.{in-Some+in_ok-add, in_default}
 use Rattle.row_core.proofs.left_side.LeftSide.add_where.Goals as goal

@@ -1,8 +1,5 @@
 -- The chosen terms from here on make of the left side what all of them make of the first.
-use Rattle.std.proofs.Common.{◌≡◌, ℕ, Bool}
-use Rattle.row_core.specs.declared.Var.{Var}
-use Rattle.row_core.specs.Amounts.{Amount}
-use Rattle.row_core.specs.Repeated.{GivesTermsWhere}
+use Rattle.row_core.proofs.Common.{◌≡◌, ℕ, Bool, Var, Amount, GivesTermsWhere}
 use Rattle.row_core.proofs.RepeatedLaws.{with_rest}
 use Rattle.row_core.proofs.left_side.LeftSide.add_where.Given as goal
 

@@ -1,9 +1,6 @@
 -- The row is written of the terms and the right side of the equation, where both were made.
-use Rattle.std.proofs.Common.{◌≡◌, sym, ap, ◌∙◌, Some, None}
-use Rattle.exact_num.specs.Rational.{Rational}
-use Rattle.exact_num.specs.Value.{value_of}
+use Rattle.row_core.proofs.Common.{◌≡◌, sym, ap, ◌∙◌, Some, None, Rational, value_of, Side, known, no_terms, with_amounts, only_if}
 use Rattle.row_core.specs.declared.place.Place.TheVariants.{Row as AtRow}
-use Rattle.row_core.specs.Calculated.{Side, known, no_terms, with_amounts, only_if}
 use Rattle.row_core.proofs.AmountLaws.{stops-without_right, stops-without_left, whole-is, IsWritten-made}
 use Rattle.row_core.proofs.left_side.LeftSide.write.Goals as goal
 

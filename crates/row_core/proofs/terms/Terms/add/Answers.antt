@@ -1,20 +1,5 @@
-use Rattle.std.proofs.Common.{◌≡◌, ℕ, true, List, map, get_or, set, sym, ap, ◌∙◌, subst}
-use Rattle.std.specs.Prelude.{Result, Ok, Err, OnOk, OnErr}
-use Rattle.std.specs.List.{insert}
-use Rattle.std.proofs.lemmas.Result.{on_ok_weaker, MatchResult-weaker}
-use Rattle.exact_num.specs.Formed.{sum_formed}
-use Rattle.exact_num.specs.Range.{all_fit}
-use Rattle.exact_num.specs.Rational.{plus}
-use Rattle.exact_num.specs.Value.{value_of}
-use Rattle.exact_num.proofs.StepLaws.{all_fit-nil}
-use Rattle.row_core.specs.declared.place.Stopped.{Stopped}
-use Rattle.row_core.specs.declared.terms.Term.{Term}
-use Rattle.row_core.specs.Numbers.{ascends, variables_of}
-use Rattle.row_core.specs.Order.{var_cmp}
-use Rattle.row_core.specs.Stops.{IsStop}
-use Rattle.row_core.specs.TermPlaces.{IsThere, BelongsAt}
+use Rattle.row_core.proofs.Common.{◌≡◌, ℕ, true, List, map, get_or, set, sym, ap, ◌∙◌, subst, Result, Ok, Err, OnOk, OnErr, insert, on_ok_weaker, MatchResult-weaker, sum_formed, all_fit, plus, value_of, all_fit-nil, Stopped, Term, ascends, variables_of, var_cmp, IsStop, IsThere, BelongsAt, seen}
 use Rattle.row_core.specs.Terms.{with_term, term_formed}
-use Rattle.row_core.specs.TermViews.{seen}
 use Rattle.row_core.proofs.TermLaws.{with_term-there, term_formed-there, with_term-belongs, term_formed-belongs, ascends-with_term}
 use Rattle.row_core.proofs.terms.Terms.add.Goals as goal
 

@@ -1,10 +1,5 @@
 -- x0 is there where some right side is negative.
-use Rattle.std.proofs.Common.{ap, ap₂, ◌∙◌}
-use Rattle.written_method.specs.FirstTableau.{first_phase}
-use Rattle.written_method.specs.Programs.{LinearProgram, program_of}
-use Rattle.written_method.specs.Rounds.{State, Phase}
-use Rattle.written_method.specs.Tableaus.{has_x0}
-use Rattle.int_tableau.specs.Counted.{Counted}
+use Rattle.simplex_core.proofs.Common.{ap, ap₂, ◌∙◌, first_phase, LinearProgram, program_of, State, Phase, has_x0, Counted}
 use Rattle.simplex_core.proofs.StepLaws.{has_x0-first}
 use Rattle.simplex_core.proofs.progress.Progress.begin.Goals as goal
 

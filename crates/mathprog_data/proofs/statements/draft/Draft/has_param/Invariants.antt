@@ -1,7 +1,4 @@
-use Rattle.std.proofs.Common.{◌≡◌, drop, map, nat_eq}
-use Rattle.std.specs.List.{list_any}
-use Rattle.mathprog_data.specs.BlocksView.{param_told}
-use Rattle.mathprog_data.specs.Meaning.{ParamBlock}
+use Rattle.mathprog_data.proofs.Common.{◌≡◌, drop, map, nat_eq, list_any, param_told, ParamBlock}
 use Rattle.mathprog_data.proofs.statements.draft.Draft.has_param.Given as goal
 
 abbrev pub invariant-loop-block : goal.invariant-loop-block

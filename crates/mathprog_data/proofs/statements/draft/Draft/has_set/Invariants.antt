@@ -1,7 +1,4 @@
-use Rattle.std.proofs.Common.{◌≡◌, drop, map, nat_eq}
-use Rattle.std.specs.List.{list_any}
-use Rattle.mathprog_data.specs.BlocksView.{set_told}
-use Rattle.mathprog_data.specs.Meaning.{SetBlock}
+use Rattle.mathprog_data.proofs.Common.{◌≡◌, drop, map, nat_eq, list_any, set_told, SetBlock}
 use Rattle.mathprog_data.proofs.statements.draft.Draft.has_set.Given as goal
 
 abbrev pub invariant-loop-block : goal.invariant-loop-block
