@@ -1,19 +1,13 @@
 -- The definitions, computed on small examples, and on near misses.
-use Rattle.std.proofs.Common.{◌≡◌, ℕ, pos, negsuc, List, [], ◌∷◌, None, Some, refl}
-use Rattle.std.specs.Prelude.{codes}
+use Rattle.compare_page.proofs.Common.{◌≡◌, ℕ, pos, negsuc, List, [], ◌∷◌, None, Some, refl, codes, SetLists, technology, Year, joined, Both, change_in, changing_row, index_at, subscripts_of, value_in_first, value_in_second, yearly_changes}
 use Rattle.exact_num.specs.Range.{in_range}
 use Rattle.exact_num.specs.Rational.{pair, whole}
 use Rattle.scaled_decimals.specs.PrintedPlaces.{millionths}
-use Rattle.model_sets.specs.Members.{SetLists}
-use Rattle.model_sets.specs.Names.{technology}
 use Rattle.row_core.specs.declared.Var.{Var}
 use Rattle.row_core.specs.declared.kind_numbers.TheConstants as k
 use Rattle.compare_page.specs.declared.members.Positions.{Positions}
-use Rattle.compare_page.specs.declared.members.Year.{Year}
 use Rattle.compare_page.specs.declared.rows.Subject.TheVariants.{Partner, Technology}
 use Rattle.compare_page.specs.declared.values.Subscripts.{Subscripts}
-use Rattle.compare_page.specs.Members.{joined}
-use Rattle.compare_page.specs.Values.{Both, change_in, changing_row, index_at, subscripts_of, value_in_first, value_in_second, yearly_changes}
 
 -- ---- two files: the second has a technology for another, its technologies and years stand in another order, and it has a year more
 

@@ -1,19 +1,12 @@
 -- A value as a number of billionths: the numerator of its fraction times what the denominator lacks to a billion.
-use Rattle.std.proofs.Common.{◌≡◌, ℕ, ◌*◌, ◌/◌, ◌<◌, ◌≤◌, ℤ, pos, Option, Some, None, ap, ap₂, sym, ◌∙◌, to_z, of_z, arith}
+use Rattle.data_warnings.proofs.Common.{◌≡◌, ℕ, ◌*◌, ◌/◌, ◌<◌, ◌≤◌, ℤ, pos, Option, Some, None, ap, ap₂, sym, ◌∙◌, to_z, of_z, arith, w128, ints, mul-div_cancel_left, InRange, back_in_range, IsWithinLimit, IsValueIn}
 use Rattle.std.specs.Int.Signed.{quot_z}
-use Rattle.std.specs.Int.{w128}
 use Rattle.std.specs.Prelude.{IsSomeAnd, ◌<ℤ◌, ◌*ℤ◌, unsigned_abs, unwrap_or}
-use Rattle.std.proofs.lemmas.Int.{ints}
-use Rattle.std.proofs.Math.Nat.{mul-div_cancel_left}
 use Rattle.exact_num.specs.Gcd.{gcd_of}
-use Rattle.exact_num.specs.Range.{InRange}
 use Rattle.exact_num.specs.Rational.{lowest, pair}
 use Rattle.exact_num.proofs.GcdLaws.{gcd_of-le_right}
-use Rattle.exact_num.proofs.RangeLaws.{back_in_range}
 use Rattle.exact_num.proofs.RationalLaws.{lowest-bottom, lowest-top}
-use Rattle.mathprog_data.specs.WellFormed.{IsWithinLimit}
 use Rattle.model_sets.specs.declared.params.Range.{Range}
-use Rattle.param_tables.specs.Built.{IsValueIn}
 use Rattle.param_tables.specs.Ranges.{billion}
 
 -- the number of billionths, had by multiplying the numerator

@@ -1,23 +1,9 @@
 -- Where a least value is above the greatest, there is no plan.
-use Rattle.std.proofs.Common.{◌≡◌, ℕ, ◌<◌, ℤ, pos, negsuc, ◌+ℤ◌, ◌*ℤ◌, ◌≤ℤ◌, ◌<ℤ◌, Bool, true, false, T, refl, sym, subst, arith}
-use Rattle.std.specs.Prelude.{int_lt, int_le, ◌&&◌}
-use Rattle.std.specs.Cmp.Derive.{both_true}
-use Rattle.std.proofs.lemmas.Int.{ints}
-use Rattle.exact_num.proofs.Integers.{*ℤ-<ℤ, *ℤ_nonnegative}
-use Rattle.model_sets.specs.Data.{Data}
+use Rattle.data_warnings.proofs.Common.{◌≡◌, ℕ, ◌<◌, ℤ, pos, negsuc, ◌+ℤ◌, ◌*ℤ◌, ◌≤ℤ◌, ◌<ℤ◌, Bool, true, false, T, refl, sym, subst, arith, int_lt, int_le, ◌&&◌, both_true, ints, *ℤ-<ℤ, *ℤ_nonnegative, Data, Var, CAA2, TCC1, TCC2, NCC1, NCC2, AAC2, AAC3, TAC2, TAC3, exists, at_rt, at_rty, scale_of, Feasible, accumulated_new_capacity, new_capacity, total_capacity_annual, total_technology_annual_activity, total_technology_model_period_activity, is_limit, is_positive, is_above_zero}
 use Rattle.model_sets.specs.Names as sets
-use Rattle.row_core.specs.declared.Var.{Var}
-use Rattle.row_core.specs.declared.equation_numbers.TheConstants.{CAA2, TCC1, TCC2, NCC1, NCC2, AAC2, AAC3, TAC2, TAC3}
-use Rattle.named_equations.specs.Existence.{exists}
-use Rattle.named_equations.specs.Indices.{at_rt, at_rty}
-use Rattle.named_equations.specs.Notation.{scale_of}
-use Rattle.named_equations.specs.Plans.{Feasible}
-use Rattle.named_equations.specs.Variables.{accumulated_new_capacity, new_capacity, total_capacity_annual, total_technology_annual_activity, total_technology_model_period_activity}
-use Rattle.named_equations.specs.Where.{is_limit, is_positive}
 use Rattle.data_warnings.specs.declared.rules.Pair.{Pair}
 use Rattle.data_warnings.specs.declared.rules.Pair.TheVariants.{Residual, Capacity, Investment, Activity}
 use Rattle.data_warnings.specs.Limits.{greatest_period, greatest_value, is_crossed, is_crossed_period, is_set, least_period, least_value}
-use Rattle.data_warnings.specs.Values.{is_above_zero}
 use Rattle.data_warnings.proofs.MetEquations.{In, index-rt, index-rty, met}
 
 -- ---- tests of numbers

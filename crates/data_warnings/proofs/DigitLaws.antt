@@ -1,7 +1,5 @@
 -- The digits of a part, one after another.
-use Rattle.std.proofs.Common.{◌≡◌, ◌≢◌, ℕ, zero, suc, false, List, [], ◌∷◌, ◌++◌, nat_eq, refl, sym, ap, ◌∙◌, append-nil, append_assoc, if◌then◌else◌}
-use Rattle.std.proofs.lemmas.Bool.{ne_eqb}
-use Rattle.data_warnings.specs.Decimals.{after_first, first_digit, part_digits}
+use Rattle.data_warnings.proofs.Common.{◌≡◌, ◌≢◌, ℕ, zero, suc, false, List, [], ◌∷◌, ◌++◌, nat_eq, refl, sym, ap, ◌∙◌, append-nil, append_assoc, if◌then◌else◌, ne_eqb, after_first, first_digit, part_digits}
 
 -- of nothing there is none
 none : (n : ℕ) → part_digits n 0 ≡ []

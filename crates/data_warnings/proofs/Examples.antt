@@ -1,25 +1,15 @@
 -- The definitions computed on a small model: one region, two technologies, two fuels, two timeslices, and three years of which the third leaves a gap.
-use Rattle.std.proofs.Common.{◌≡◌, ℕ, ◌++◌, ◌∷◌, [], List, false, refl, pos, negsuc, set}
-use Rattle.std.specs.Fmt.{digits}
+use Rattle.data_warnings.proofs.Common.{◌≡◌, ℕ, ◌++◌, ◌∷◌, [], List, false, refl, pos, negsuc, set, digits, Default, Given, SetLists, Built, Finding, Rule, decimal_text, part_digits, found, place_at, above_line, asked_start, asked_text, bare_number, beside_text, crossed_line, default_line, default_text, first_names, for_first, last_line, line, lines_text, more_members, more_years, names_text, number_text, of_names, subject_text, unmade_line, unmade_text, years_text, whole}
 use Rattle.std.specs.Prelude.{codes, ℤ}
-use Rattle.model_sets.specs.Data.{Default, Given}
-use Rattle.model_sets.specs.Members.{SetLists}
 use Rattle.model_sets.specs.declared.param_numbers.TheConstants as param
-use Rattle.param_tables.specs.Built.{Built}
-use Rattle.data_warnings.specs.declared.places.Finding.{Finding}
 use Rattle.data_warnings.specs.declared.rules.Ceiling.TheVariants as ceiling
 use Rattle.data_warnings.specs.declared.rules.Cost.TheVariants as cost
 use Rattle.data_warnings.specs.declared.rules.EmissionLimit.TheVariants as emission_limit
 use Rattle.data_warnings.specs.declared.rules.Enabler.TheVariants as enabler
 use Rattle.data_warnings.specs.declared.rules.Limit.TheVariants as limit
 use Rattle.data_warnings.specs.declared.rules.Pair.TheVariants as pair
-use Rattle.data_warnings.specs.declared.rules.Rule.{Rule}
 use Rattle.data_warnings.specs.declared.rules.Rule.TheVariants as rule
 use Rattle.data_warnings.specs.declared.rules.Series.TheVariants as series
-use Rattle.data_warnings.specs.Decimals.{decimal_text, part_digits}
-use Rattle.data_warnings.specs.Findings.{found, place_at}
-use Rattle.data_warnings.specs.Lines.{above_line, asked_start, asked_text, bare_number, beside_text, crossed_line, default_line, default_text, first_names, for_first, last_line, line, lines_text, more_members, more_years, names_text, number_text, of_names, subject_text, unmade_line, unmade_text, years_text}
-use Rattle.data_warnings.specs.Values.{whole}
 
 small_sets : SetLists
 small_sets =
@@ -108,6 +98,28 @@ held : found (small (at param.FIXED_COST (rt (codes "U") (codes "2023")) (negsuc
 unfolding small small_sets at by_default told rt
 held = refl
 
+-- a limit on the activity of the year holds it too, and one on the activity of the model period that is above 0
+held_by : List Default → Built
+held_by limits =
+    small (at param.FIXED_COST (rt (codes "U") (codes "2023")) (negsuc 0) ∷ [])
+    (limits ++ by_default param.TOTAL_ANNUAL_MAX_CAPACITY (negsuc 999999999) ∷ by_default param.TOTAL_ANNUAL_MAX_CAPACITY_INVESTMENT (negsuc 999999999) ∷ by_default param.TOTAL_TECHNOLOGY_ANNUAL_ACTIVITY_UPPER_LIMIT (negsuc 999999999) ∷ [])
+
+held_by_capacity : found (held_by (by_default param.TOTAL_ANNUAL_MAX_CAPACITY (pos 0) ∷ [])) (rule.NegativeCost cost.Fixed) ≡ []
+unfolding held_by small small_sets at by_default told rt
+held_by_capacity = refl
+
+held_by_activity : found (held_by (by_default param.TOTAL_TECHNOLOGY_ANNUAL_ACTIVITY_UPPER_LIMIT (pos 0) ∷ [])) (rule.NegativeCost cost.Fixed) ≡ []
+unfolding held_by small small_sets at by_default told rt
+held_by_activity = refl
+
+held_by_the_period : found (held_by (by_default param.TOTAL_TECHNOLOGY_MODEL_PERIOD_ACTIVITY_UPPER_LIMIT (pos 1) ∷ [])) (rule.NegativeCost cost.Fixed) ≡ []
+unfolding held_by small small_sets at by_default told rt
+held_by_the_period = refl
+
+period_without_limit : found (held_by (by_default param.TOTAL_TECHNOLOGY_MODEL_PERIOD_ACTIVITY_UPPER_LIMIT (pos 0) ∷ [])) (rule.NegativeCost cost.Fixed) ≡ told (rule.NegativeCost cost.Fixed) 0 1 0 2 0 (negsuc 0) (pos 0) ∷ []
+unfolding held_by small small_sets at by_default told rt
+period_without_limit = refl
+
 -- ---- fuels
 
 -- a fuel that is asked for in a year, and made in another one alone
@@ -157,6 +169,23 @@ enabled : found (small (makes (codes "2020") ∷ at param.CAPACITY_FACTOR (codes
 unfolding small small_sets at by_default told rt makes asks
 enabled = refl
 
+-- nor where its availability is 0 in every year, or its unit of activity
+unavailable : found (small (makes (codes "2020") ∷ at param.AVAILABILITY_FACTOR (rt (codes "T") (codes "2023")) (pos 1) ∷ []) []) (rule.Disabled enabler.Availability) ≡ told (rule.Disabled enabler.Availability) 0 1 0 0 0 (pos 0) (pos 0) ∷ []
+unfolding small small_sets at by_default told rt makes asks
+unavailable = refl
+
+available : found (small (makes (codes "2020") ∷ at param.AVAILABILITY_FACTOR (rt (codes "U") (codes "2023")) (pos 1) ∷ []) []) (rule.Disabled enabler.Availability) ≡ []
+unfolding small small_sets at by_default told rt makes asks
+available = refl
+
+without_unit : found (small (makes (codes "2020") ∷ at param.CAPACITY_TO_ACTIVITY_UNIT (codes "R" ∷ codes "T" ∷ []) (pos 1) ∷ []) []) (rule.Disabled enabler.Unit) ≡ told (rule.Disabled enabler.Unit) 0 1 0 0 0 (pos 0) (pos 0) ∷ []
+unfolding small small_sets at by_default told rt makes asks
+without_unit = refl
+
+with_unit : found (small (makes (codes "2020") ∷ at param.CAPACITY_TO_ACTIVITY_UNIT (codes "R" ∷ codes "U" ∷ []) (pos 1) ∷ []) []) (rule.Disabled enabler.Unit) ≡ []
+unfolding small small_sets at by_default told rt makes asks
+with_unit = refl
+
 -- ---- years and sums
 
 -- 2022 is missing
@@ -187,6 +216,64 @@ outlier = refl
 no_outlier : found (costs (pos 7999999999)) (rule.Outlier series.CapitalCost) ≡ []
 unfolding costs small small_sets at by_default told rt
 no_outlier = refl
+
+-- an eighth of the others is far too, and a billionth more isn't
+eighth : found (costs (pos 125000000)) (rule.Outlier series.CapitalCost) ≡ told (rule.Outlier series.CapitalCost) 0 0 0 1 0 (pos 125000000) (whole 1) ∷ []
+unfolding costs small small_sets at by_default told rt
+eighth = refl
+
+no_eighth : found (costs (pos 125000001)) (rule.Outlier series.CapitalCost) ≡ []
+unfolding costs small small_sets at by_default told rt
+no_eighth = refl
+
+-- The first year is beside the second and the third, of which the second is the nearest; the last year is beside the two before it.
+three_costs : ℤ → ℤ → ℤ → Built
+three_costs first second last =
+    small (at param.CAPITAL_COST (rt (codes "T") (codes "2020")) first ∷ at param.CAPITAL_COST (rt (codes "T") (codes "2021")) second ∷ at param.CAPITAL_COST (rt (codes "T") (codes "2023")) last ∷ []) []
+
+first_year : found (three_costs (whole 8) (whole 1) (pos 500000000)) (rule.Outlier series.CapitalCost) ≡ told (rule.Outlier series.CapitalCost) 0 0 0 0 0 (whole 8) (whole 1) ∷ []
+unfolding three_costs small small_sets at by_default told rt
+first_year = refl
+
+near_the_third : found (three_costs (whole 8) (whole 1) (whole 2)) (rule.Outlier series.CapitalCost) ≡ []
+unfolding three_costs small small_sets at by_default told rt
+near_the_third = refl
+
+last_year : found (three_costs (pos 500000000) (whole 1) (whole 8)) (rule.Outlier series.CapitalCost) ≡ told (rule.Outlier series.CapitalCost) 0 0 0 2 0 (whole 8) (whole 1) ∷ []
+unfolding three_costs small small_sets at by_default told rt
+last_year = refl
+
+near_the_first : found (three_costs (whole 2) (whole 1) (whole 8)) (rule.Outlier series.CapitalCost) ≡ []
+unfolding three_costs small small_sets at by_default told rt
+near_the_first = refl
+
+-- each series has a parameter of its own: eight times the default in one year
+far_at : ℕ → List (List ℕ) → Built
+far_at number index = small (at number index (whole 8) ∷ []) (by_default number (whole 1) ∷ [])
+
+fixed_cost : found (far_at param.FIXED_COST (rt (codes "T") (codes "2021"))) (rule.Outlier series.FixedCost) ≡ told (rule.Outlier series.FixedCost) 0 0 0 1 0 (whole 8) (whole 1) ∷ []
+unfolding far_at small small_sets at by_default told rt
+fixed_cost = refl
+
+variable_cost : found (far_at param.VARIABLE_COST (codes "R" ∷ codes "U" ∷ codes "1" ∷ codes "2021" ∷ [])) (rule.Outlier series.VariableCost) ≡ told (rule.Outlier series.VariableCost) 0 1 0 1 0 (whole 8) (whole 1) ∷ []
+unfolding far_at small small_sets at by_default told
+variable_cost = refl
+
+demand_with_profile : found (far_at param.SPECIFIED_ANNUAL_DEMAND (rt (codes "F") (codes "2021"))) (rule.Outlier series.SpecifiedAnnualDemand) ≡ told (rule.Outlier series.SpecifiedAnnualDemand) 0 0 0 1 0 (whole 8) (whole 1) ∷ []
+unfolding far_at small small_sets at by_default told rt
+demand_with_profile = refl
+
+demand_of_year : found (far_at param.ACCUMULATED_ANNUAL_DEMAND (rt (codes "G") (codes "2021"))) (rule.Outlier series.AccumulatedAnnualDemand) ≡ told (rule.Outlier series.AccumulatedAnnualDemand) 0 1 0 1 0 (whole 8) (whole 1) ∷ []
+unfolding far_at small small_sets at by_default told rt
+demand_of_year = refl
+
+residual_capacity : found (far_at param.RESIDUAL_CAPACITY (rt (codes "U") (codes "2021"))) (rule.Outlier series.ResidualCapacity) ≡ told (rule.Outlier series.ResidualCapacity) 0 1 0 1 0 (whole 8) (whole 1) ∷ []
+unfolding far_at small small_sets at by_default told rt
+residual_capacity = refl
+
+of_another_series : found (far_at param.FIXED_COST (rt (codes "T") (codes "2021"))) (rule.Outlier series.CapitalCost) ≡ []
+unfolding far_at small small_sets at by_default told rt
+of_another_series = refl
 
 -- ---- rates
 

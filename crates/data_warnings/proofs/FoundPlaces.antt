@@ -1,16 +1,5 @@
 -- A finding is at a place of members at which its rule speaks.
-use Rattle.std.proofs.Common.{◌≡◌, ℕ, ◌<◌, true, List, [], ◌∷◌, refl, subst, arith, inl, inr}
-use Rattle.std.specs.Prelude.{filter}
-use Rattle.std.specs.List.{range_with_len}
-use Rattle.param_tables.specs.Built.{Built}
-use Rattle.row_core.proofs.Members.{Has, flat_map_parts}
-use Rattle.named_equations.proofs.InstanceTests.{range_parts}
-use Rattle.data_warnings.specs.declared.places.Finding.{Finding}
-use Rattle.data_warnings.specs.declared.rules.Rule.{Rule}
-use Rattle.data_warnings.specs.Findings.{findings, found, found_at, found_in, found_of_one, found_of_two, place_at, rules_in_order, last_members}
-use Rattle.data_warnings.specs.Frames.{frame_of}
-use Rattle.data_warnings.specs.Speaking.{speaks}
-use Rattle.data_warnings.specs.Values.{IsPlace, count, positions}
+use Rattle.data_warnings.proofs.Common.{◌≡◌, ℕ, ◌<◌, true, List, [], ◌∷◌, refl, subst, arith, inl, inr, filter, range_with_len, Built, Has, flat_map_parts, range_parts, Finding, Rule, findings, found, found_at, found_in, found_of_one, found_of_two, place_at, rules_in_order, last_members, frame_of, speaks, IsPlace, count, positions}
 use Rattle.data_warnings.proofs.FirstLaws.{IsFirst, first_kept}
 
 -- the rule of the finding speaks at its place

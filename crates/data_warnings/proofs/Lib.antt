@@ -1,3 +1,4 @@
+mod Common
 mod LineEnds
 mod Examples
 pub mod Billionths

@@ -1,29 +1,15 @@
 -- How lines of findings end: those after which plans may exist don't end in `: no plan`.
 use Rattle.std.proofs.Common.{◌≡◌, ℕ, ℤ, ◌+◌, ◌-◌, ◌*◌, ◌<◌, ◌≤◌, Bool, true, false, ◌&&◌, List, [], ◌∷◌, ◌++◌, length, nat_eq, get_or, fold, reverse, refl, sym, ap, ◌∙◌, subst, inl, inr, ◌⊎◌, if◌then◌else◌, arith, rules}
-use Rattle.std.specs.Prelude.{codes}
-use Rattle.std.specs.Fmt.{decimal}
-use Rattle.std.specs.List.{list_all}
+use Rattle.data_warnings.proofs.Common.{codes, decimal, list_all, AreSets, SetLists, members, year, Finding, Place, Rule, YearSplitSum, YearGap, DiscountRate, UnprofiledDemand, ProfileSum, UnmadeDemand, StarvedTechnology, Disabled, Crossed, CrossedPeriod, Unreachable, ShortLives, LargeFactor, LargeAvailability, LargeTarget, SmallMargin, NegativeCost, Outlier, OneWayRoute, ZeroLimits, ZeroEmissions, HighLimits, IdleLimit, UnusedFuel, IdleTechnology, Rounded, decimal_text, frame_of, above_line, default_line, default_text, for_first, gap_line, gap_text, line, loose_line, member_line, more_members, more_years, names_text, nearest_text, number_text, outlier_line, pair_line, pair_text, plain_line, rounded_line, route_line, route_remark, route_start, said, starved_line, starved_text, subject_line, subject_text, sum_line, years_text, EndsIn, excludes_plans, no_plan_ending, name}
 use Rattle.std.specs.Char.{is_ascii_digit}
 use Rattle.std.proofs.lemmas.Bool.{cases_lt, eqb-true}
 use Rattle.std.proofs.lemmas.Fmt.{digits_decimal}
 use Rattle.std.proofs.lemmas.Str.Parse.{IsNumeralModel, numerals_by_fold}
 use Rattle.std.proofs.lemmas.List.{append-nil, get_or_past, reverse-append}
-use Rattle.model_sets.specs.Members.{AreSets, SetLists, members}
-use Rattle.model_sets.specs.Names.{year}
 use Rattle.model_sets.specs.Years.{is_year, number_of}
 use Rattle.model_sets.proofs.YearLaws.{year_is}
-use Rattle.param_tables.specs.Built.{Built}
-use Rattle.data_warnings.specs.declared.places.Finding.{Finding}
-use Rattle.data_warnings.specs.declared.places.Place.{Place}
 use Rattle.data_warnings.specs.declared.rules.Cost.TheVariants as cost
-use Rattle.data_warnings.specs.declared.rules.Rule.{Rule}
-use Rattle.data_warnings.specs.declared.rules.Rule.TheVariants.{YearSplitSum, YearGap, DiscountRate, UnprofiledDemand, ProfileSum, UnmadeDemand, StarvedTechnology, Disabled, Crossed, CrossedPeriod, Unreachable, ShortLives, LargeFactor, LargeAvailability, LargeTarget, SmallMargin, NegativeCost, Outlier, OneWayRoute, ZeroLimits, ZeroEmissions, HighLimits, IdleLimit, UnusedFuel, IdleTechnology, Rounded}
-use Rattle.data_warnings.specs.Decimals.{decimal_text}
-use Rattle.data_warnings.specs.Frames.{frame_of}
-use Rattle.data_warnings.specs.Lines.{above_line, default_line, default_text, first_names, for_first, gap_line, gap_text, line, loose_line, member_line, more_members, more_word, more_years, names_text, nearest_text, next_name, number_text, outlier_line, pair_line, pair_text, plain_line, rounded_line, route_line, route_remark, route_start, said, starved_line, starved_text, subject_line, subject_text, sum_line, years_text}
 use Rattle.data_warnings.specs.Neighbours.{nearest}
-use Rattle.data_warnings.specs.NoPlan.{EndsIn, excludes_plans, no_plan_ending}
-use Rattle.data_warnings.specs.Values.{name}
 
 -- ---- the last byte, or the last but one, isn't that of `plan`
 
@@ -66,9 +52,6 @@ rest-same a b xs ys e = ap later e
 not-both : (b : Bool) → b ≡ true → b ≡ false → ⊥
 not-both true is not = cc not
 not-both false is not = cc is
-
-no_plan_reversed : List ℕ
-no_plan_reversed = reverse (codes ": no pl")
 
 apart-no_plan : (text : List ℕ) → Apart text → EndsIn no_plan_ending (text ++ 10 ∷ []) → ⊥
 apart-no_plan text apart ending = go apart

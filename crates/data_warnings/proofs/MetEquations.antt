@@ -1,20 +1,11 @@
 -- What a feasible plan meets at the positions of members, and which variables are at least 0.
-use Rattle.std.proofs.Common.{◌≡◌, ℕ, ◌<◌, ℤ, Bool, true, List, [], ◌∷◌, refl, subst, inl, inr, lt-ltb}
-use Rattle.std.specs.Cmp.Derive.{both_true}
-use Rattle.std.specs.List.{list_any}
+use Rattle.data_warnings.proofs.Common.{◌≡◌, ℕ, ◌<◌, ℤ, Bool, true, List, [], ◌∷◌, refl, subst, inl, inr, lt-ltb, both_true, list_any, Data, Var, Has, at_rlfy, at_rfy, at_rrrfy, at_rrrlfy, at_rt, at_rty, Feasible, Meets, MeetsEach, count_of, Has-instances}
 use Rattle.std.specs.Prelude.{nat_eq, nat_lt, ◌&&◌}
-use Rattle.model_sets.specs.Data.{Data}
 use Rattle.model_sets.specs.Names as sets
 use Rattle.row_core.specs.declared.Index.{Index}
 use Rattle.row_core.specs.declared.RowName.{RowName}
-use Rattle.row_core.specs.declared.Var.{Var}
 use Rattle.row_core.specs.Subscripts as place
-use Rattle.row_core.proofs.Members.{Has}
-use Rattle.named_equations.specs.Indices.{at_rlfy, at_rfy, at_rrrfy, at_rrrlfy, at_rt, at_rty}
 use Rattle.named_equations.specs.Instances.{equation_numbers, instances, is_index, name_at, stands_at, subscripts_of}
-use Rattle.named_equations.specs.Plans.{Feasible, Meets, MeetsEach}
-use Rattle.named_equations.specs.Positions.{count_of}
-use Rattle.named_equations.proofs.InstanceTests.{Has-instances}
 
 -- the position is that of a member
 abbrev pub In : Data → ℕ → ℕ → Type 0

@@ -1,8 +1,5 @@
 -- A sum over positions, one after another.
-use Rattle.std.proofs.Common.{◌≡◌, ℕ, suc, ◌+◌, ◌-◌, ◌<◌, ℤ, ◌+ℤ◌, sym, ap, ◌∙◌, arith}
-use Rattle.std.specs.List.{range_with_len}
-use Rattle.exact_num.proofs.Ring.{+ℤ_assoc}
-use Rattle.named_equations.specs.Notation.{sum_over}
+use Rattle.data_warnings.proofs.Common.{◌≡◌, ℕ, suc, ◌+◌, ◌-◌, ◌<◌, ℤ, ◌+ℤ◌, sym, ap, ◌∙◌, arith, range_with_len, +ℤ_assoc, sum_over}
 
 -- the sum from position i to the end
 abbrev pub sum_from : (ℕ → ℤ) → ℕ → ℕ → ℤ

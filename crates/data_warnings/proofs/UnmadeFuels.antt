@@ -1,30 +1,10 @@
 -- Where a fuel is asked for and nothing makes or brings it, there is no plan.
-use Rattle.std.proofs.Common.{◌≡◌, ℕ, zero, suc, ◌+◌, ◌<◌, ℤ, pos, ◌+ℤ◌, ◌*ℤ◌, ◌≤ℤ◌, ◌<ℤ◌, Bool, true, false, not, ◌||◌, ◌⊎◌, List, [], ◌∷◌, length, nat_eq, refl, ap, ap₂, sym, ◌∙◌, subst, arith, eqb-true, inl, inr, true≢false}
-use Rattle.std.specs.Prelude.{◌&&◌}
-use Rattle.std.specs.Cmp.Derive.{both_true}
-use Rattle.std.specs.List.{list_any, range_with_len}
+use Rattle.data_warnings.proofs.Common.{◌≡◌, ℕ, zero, suc, ◌+◌, ◌<◌, ℤ, pos, ◌+ℤ◌, ◌*ℤ◌, ◌≤ℤ◌, ◌<ℤ◌, Bool, true, false, not, ◌||◌, ◌⊎◌, List, [], ◌∷◌, length, nat_eq, refl, ap, ap₂, sym, ◌∙◌, subst, arith, eqb-true, inl, inr, true≢false, ◌&&◌, both_true, list_any, range_with_len, ints, ≤ℤ_or_<ℤ, *ℤ_pos, *ℤ_cancel, *ℤ_nonnegative, <ℤ_cancel, nonzero_of_pos, *ℤ-zero, zero-*ℤ, *ℤ_comm, products, Data, Var, EQ_SPECIFIED_DEMAND, EBA3, EBA7, EBA9, EBA10, EBA11, EBB1, EBB3, EBB4, exists, at_rfy, at_rlfy, at_rrrfy, at_rrrlfy, scale_of, sum_over, accumulated_annual_demand, specified_annual_demand, specified_demand_profile, trade_route, year_split, Feasible, count_of, regions, demand, production, production_annual, rate_of_demand, rate_of_production, rate_of_production_by_technology, trade, trade_annual, use_annual, use_of_fuel, producing_technologies, Profile, Route, is_so, is_so_somewhere, is_above_zero, is_nonzero}
 use Rattle.std.specs.Ordering.{is_eq}
-use Rattle.std.proofs.lemmas.Int.{ints}
-use Rattle.exact_num.proofs.Integers.{≤ℤ_or_<ℤ, *ℤ_pos, *ℤ_cancel, *ℤ_nonnegative, <ℤ_cancel, nonzero_of_pos}
 use Rattle.exact_num.proofs.OrderLaws.{int_cmp-less, int_cmp-greater}
-use Rattle.exact_num.proofs.Ring.{*ℤ-zero, zero-*ℤ, *ℤ_comm, products}
-use Rattle.model_sets.specs.Data.{Data}
 use Rattle.model_sets.specs.Names as sets
 use Rattle.param_tables.specs.declared.ratios.ActivityRatio.TheVariants.{Output}
-use Rattle.row_core.specs.declared.Var.{Var}
-use Rattle.row_core.specs.declared.equation_numbers.TheConstants.{EQ_SPECIFIED_DEMAND, EBA3, EBA7, EBA9, EBA10, EBA11, EBB1, EBB3, EBB4}
-use Rattle.named_equations.specs.Existence.{exists}
-use Rattle.named_equations.specs.Indices.{at_rfy, at_rlfy, at_rrrfy, at_rrrlfy}
-use Rattle.named_equations.specs.Notation.{scale_of, sum_over}
-use Rattle.named_equations.specs.Parameters.{accumulated_annual_demand, specified_annual_demand, specified_demand_profile, trade_route, year_split}
-use Rattle.named_equations.specs.Plans.{Feasible}
-use Rattle.named_equations.specs.Positions.{count_of, regions}
-use Rattle.named_equations.specs.Variables.{demand, production, production_annual, rate_of_demand, rate_of_production, rate_of_production_by_technology, trade, trade_annual, use_annual, use_of_fuel}
-use Rattle.named_equations.specs.Where.{producing_technologies}
-use Rattle.data_warnings.specs.declared.questions.Question.TheVariants.{Profile, Route}
 use Rattle.data_warnings.specs.Makers.{has_some, is_asked_for, is_handled, is_specified, is_supplied, is_unmade}
-use Rattle.data_warnings.specs.Questions.{is_so, is_so_somewhere}
-use Rattle.data_warnings.specs.Values.{is_above_zero, is_nonzero}
 use Rattle.data_warnings.proofs.CrossedLimits.{both, lt_of, some}
 use Rattle.data_warnings.proofs.MetEquations.{In, in_of, index-rfy, index-rlfy, index-rrrfy, index-rrrlfy, met}
 

@@ -1,28 +1,9 @@
 -- Where a least activity is above what the greatest capacity can do, there is no plan.
-use Rattle.std.proofs.Common.{◌≡◌, ℕ, zero, suc, ◌+◌, ◌*◌, ◌/◌, ◌%◌, ◌^◌, ◌<◌, ◌≤◌, ℤ, pos, ◌+ℤ◌, ◌*ℤ◌, ◌≤ℤ◌, ◌<ℤ◌, Bool, true, false, not, ◌||◌, Option, Some, None, refl, ap, ap₂, sym, ◌∙◌, subst, arith, ltb-true}
+use Rattle.data_warnings.proofs.Common.{◌≡◌, ℕ, zero, suc, ◌+◌, ◌*◌, ◌/◌, ◌%◌, ◌^◌, ◌<◌, ◌≤◌, ℤ, pos, ◌+ℤ◌, ◌*ℤ◌, ◌≤ℤ◌, ◌<ℤ◌, Bool, true, false, not, ◌||◌, Option, Some, None, refl, ap, ap₂, sym, ◌∙◌, subst, arith, ltb-true, list_any, range_with_len, mod-add-div', mod-lt, mul_comm, mul-le-mul_right, mul_right_comm, ints, ≤ℤ-*ℤ, *ℤ-≤ℤ, ≤ℤ_cancel, pos-unsigned_abs, *ℤ_assoc, products, Data, Var, CAB1, TCC1, AAC1, AAC3, at_rty, scale_of, sum_over, capacity_factor, year_split, Feasible, count_of, timeslices, rate_of_total_activity, total_capacity_annual, billion, WideSlice, is_so, is_so_somewhere, is_within, effort, sum_of, is_above_zero, whole}
 use Rattle.std.specs.Prelude.{int_le, ◌&&◌, unsigned_abs, if◌then◌else◌}
-use Rattle.std.specs.List.{list_any, range_with_len}
-use Rattle.std.proofs.Math.Nat.{mod-add-div', mod-lt, mul_comm, mul-le-mul_right, mul_right_comm}
-use Rattle.std.proofs.lemmas.Int.{ints}
-use Rattle.exact_num.proofs.Integers.{≤ℤ-*ℤ, *ℤ-≤ℤ, ≤ℤ_cancel, pos-unsigned_abs}
-use Rattle.exact_num.proofs.Ring.{*ℤ_assoc, products}
-use Rattle.model_sets.specs.Data.{Data}
 use Rattle.model_sets.specs.Names as sets
-use Rattle.row_core.specs.declared.Var.{Var}
-use Rattle.row_core.specs.declared.equation_numbers.TheConstants.{CAB1, TCC1, AAC1, AAC3}
-use Rattle.named_equations.specs.Indices.{at_rty}
-use Rattle.named_equations.specs.Notation.{scale_of, sum_over}
-use Rattle.named_equations.specs.Parameters.{capacity_factor, year_split}
-use Rattle.named_equations.specs.Plans.{Feasible}
-use Rattle.named_equations.specs.Positions.{count_of, timeslices}
-use Rattle.named_equations.specs.Variables.{rate_of_total_activity, total_capacity_annual}
-use Rattle.data_warnings.specs.Decimals.{billion}
-use Rattle.data_warnings.specs.declared.questions.Question.TheVariants.{WideSlice}
 use Rattle.data_warnings.specs.declared.sums.Parts.TheVariants.{Effort}
-use Rattle.data_warnings.specs.Questions.{is_so, is_so_somewhere, is_within}
 use Rattle.data_warnings.specs.Reach.{activity_unit, availability_of, from_both, greatest_capacity, is_above_both, is_above_reach, is_unreachable, least_activity, size_within, up, usual_effort, usual_most}
-use Rattle.data_warnings.specs.Sums.{effort, sum_of}
-use Rattle.data_warnings.specs.Values.{is_above_zero, whole}
 use Rattle.data_warnings.proofs.CrossedLimits.{both, le_of, limit_test, lt_of, positive_test, some}
 use Rattle.data_warnings.proofs.MetEquations.{In, index-rty, met}
 

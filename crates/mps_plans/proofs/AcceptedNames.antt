@@ -1,17 +1,11 @@
 -- No name in the sets of accepted data has a line feed: a bare symbol has none, and nor has what stands between two quotes.
-use Rattle.std.proofs.Common.{◌≡◌, ℕ, Bool, true, false, ◌&&◌, not, cond, List, [], ◌∷◌, ◌++◌, length, map, Option, Some, None, refl, ap, sym, subst, inl, inr, eqb-true}
-use Rattle.std.specs.Prelude.{nat_lt, nat_eq, ◌==◌}
-use Rattle.std.specs.List.{AllByRecursion, find, flat_map, list_all, range_with_len}
-use Rattle.std.specs.Option.{option_map_or}
-use Rattle.std.specs.Str.{all_ascii_digits}
-use Rattle.model_sets.specs.Data.{Data}
+use Rattle.mps_plans.proofs.Common.{◌≡◌, ℕ, Bool, true, false, ◌&&◌, not, cond, List, [], ◌∷◌, ◌++◌, length, map, Option, Some, None, refl, ap, sym, subst, inl, inr, eqb-true, nat_lt, nat_eq, ◌==◌, AllByRecursion, find, flat_map, list_all, range_with_len, option_map_or, all_ascii_digits, Data, Blocks, Means, IsLoose, Opening, SetBlock, blocks_of, set_blocks, Says, members_told, set_lists, Accepted, ends_line, is_one_line, HaveOneLineNames}
 use Rattle.model_sets.specs.Params.{subscript_count}
 use Rattle.mathprog_data.specs.Characters.{zero_digit}
 use Rattle.mathprog_data.specs.Lexemes.{Placed, Bare, Quoted, bare_name, without_leading_zeros}
 use Rattle.mathprog_data.specs.Lexing.{AreWhole, Lexes, LexingEnd, Tokens, placed_after}
 use Rattle.mathprog_data.specs.LexingBytes.{is_printable, is_symbol_byte}
 use Rattle.mathprog_data.specs.LexingPieces.{Piece, Separator, LineComment, BlockComment, SignToken, BareToken, QuotedToken, spelling}
-use Rattle.mathprog_data.specs.Meaning.{Blocks, Means, IsLoose, Opening, SetBlock, blocks_of, set_blocks}
 use Rattle.mathprog_data.specs.Meaning as meaning
 use Rattle.mathprog_data.specs.Slices.{Places, Slice, all_free, free_count}
 use Rattle.mathprog_data.specs.Slices as slices
@@ -21,11 +15,6 @@ use Rattle.mathprog_data.specs.Symbols.{Comma, IsSymbol, Name, symbol_name}
 use Rattle.mathprog_data.specs.Symbols as symbols
 use Rattle.mathprog_data.specs.Tables.{Cells, Columns, Heading, Rows, Table}
 use Rattle.mathprog_data.specs.Tables as tables
-use Rattle.mathprog_data.specs.Verdicts.{Says}
-use Rattle.param_tables.specs.BlockData.{members_told, set_lists}
-use Rattle.command_answers.specs.Accepted.{Accepted}
-use Rattle.mps_meaning.specs.Lines.{ends_line, is_one_line}
-use Rattle.mps_plans.specs.PlanPrograms.{HaveOneLineNames}
 
 -- ---- bytes
 

@@ -1,19 +1,9 @@
 -- There are fewer than 10 ^ 64 instances and variables, since no set has more than 1,000 members.
-use Rattle.std.proofs.Common.{◌≡◌, ℕ, zero, suc, ◌+◌, ◌*◌, ◌<◌, ◌≤◌, ◌^◌, Bool, true, false, cond, List, [], ◌∷◌, ◌++◌, filter, length, length-append, arith, zero-le}
-use Rattle.std.specs.List.{flat_map}
+use Rattle.mps_plans.proofs.Common.{◌≡◌, ℕ, zero, suc, ◌+◌, ◌*◌, ◌<◌, ◌≤◌, ◌^◌, Bool, true, false, cond, List, [], ◌∷◌, ◌++◌, filter, length, length-append, arith, zero-le, flat_map, length-map, length-range_with_len, Data, AreSets, members, IsSet, all_variables, exists_at, kind_numbers, subscripts_of_kind, variables_of_kind, index, equation_numbers, indices, instances, instances_of, is_one_of, name_at, set_at, stands_at, subscripts_of, values_at, variable}
 use Rattle.std.proofs.Math.Nat.{suc-mul}
-use Rattle.std.proofs.lemmas.List.{length-map}
-use Rattle.std.proofs.lemmas.List.FromFn.{length-range_with_len}
-use Rattle.model_sets.specs.Data.{Data}
-use Rattle.model_sets.specs.Members.{AreSets, members}
-use Rattle.model_sets.specs.Names.{IsSet}
 use Rattle.param_tables.proofs.PlaceLaws.{members-most}
 use Rattle.row_core.specs.Subscripts as place
-use Rattle.named_equations.specs.Existence.{all_variables, exists_at, kind_numbers, subscripts_of_kind, variables_of_kind}
-use Rattle.named_equations.specs.Indices.{index}
-use Rattle.named_equations.specs.Instances.{equation_numbers, indices, instances, instances_of, is_one_of, name_at, set_at, stands_at, subscripts_of, values_at}
 use Rattle.named_equations.specs.Positions.{positions}
-use Rattle.named_equations.specs.Variables.{variable}
 use Rattle.named_equations.proofs.InstanceOrder.{from_rr, from_l, from_t, from_f, from_e, from_m, from_y}
 
 -- ---- lists

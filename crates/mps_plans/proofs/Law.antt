@@ -1,20 +1,5 @@
 -- The text of the equations reads as a program of their plans.
-use Rattle.std.proofs.Common.{◌≡◌, ℕ, ◌+◌, ◌<◌, ◌^◌, true, List, [], ◌∷◌, length, map, Some, refl, ap, sym, ◌∙◌, subst, arith, inl, inr, ◌⊎◌}
-use Rattle.std.specs.Prelude.{ℤ, Contains, ◌↔◌}
-use Rattle.std.specs.List.{AllByRecursion, AllZip, enumerate_from}
-use Rattle.model_sets.specs.Data.{Data}
-use Rattle.param_tables.specs.Built.{AreComplete}
-use Rattle.row_core.specs.declared.Row.{Row}
-use Rattle.row_core.specs.declared.RowName.{RowName}
-use Rattle.row_core.specs.declared.Var.{Var}
-use Rattle.row_core.specs.declared.kind_numbers.TheConstants.{TOTAL_DISCOUNTED_COST}
-use Rattle.row_core.specs.NameTexts.{row_name, variable_name}
-use Rattle.row_core.specs.Numbers.{variables_of}
-use Rattle.row_core.specs.Contents.{contents_of}
-use Rattle.certificate_checker.specs.Plans.{MeetsAll}
-use Rattle.named_equations.specs.Existence.{all_variables, exists}
-use Rattle.named_equations.specs.Instances.{instances}
-use Rattle.named_equations.specs.Plans.{Feasible}
+use Rattle.mps_plans.proofs.Common.{◌≡◌, ℕ, ◌+◌, ◌<◌, ◌^◌, true, List, [], ◌∷◌, length, map, Some, refl, ap, sym, ◌∙◌, subst, arith, inl, inr, ◌⊎◌, ℤ, Contains, ◌↔◌, AllByRecursion, AllZip, enumerate_from, Data, AreComplete, Row, RowName, Var, TOTAL_DISCOUNTED_COST, row_name, variable_name, variables_of, contents_of, MeetsAll, all_variables, exists, instances, Feasible, Name, is_one_line, MeetsProgram, Program, all-each, all-weaker, AreReadable, program_column, program_of_rows, program_row, Among, AreValuesOf, HaveOneLineNames, IsProgramOf, PlanWithValues, RowSays}
 use Rattle.row_core.proofs.Members.{Contains-from_Has, Has}
 use Rattle.row_core.specs.RowLists.{AreVariablesOf, entry_variables}
 use Rattle.row_book.specs.Books.{AreRowsOf}
@@ -23,16 +8,10 @@ use Rattle.row_book.proofs.Within.{variables-exist}
 use Rattle.command_answers.specs.CheckedPlans.{IsBookOf}
 use Rattle.command_answers.proofs.CheckedRows.{feasible-from_rows, rows-from_feasible}
 use Rattle.command_answers.proofs.PlanCosts.{all-of, cost-is}
-use Rattle.mps_meaning.specs.Lines.{Name, is_one_line}
-use Rattle.mps_meaning.specs.Programs.{MeetsProgram, Program}
 use Rattle.mps_meaning.specs.Reading.{program_of}
-use Rattle.mps_meaning.proofs.NumberedLaws.{all-each, all-weaker}
-use Rattle.mps_reading.specs.RowPrograms.{AreReadable, program_column, program_of_rows, program_row}
-use Rattle.mps_reading.proofs.Places.{Among}
 use Rattle.mps_reading.proofs.ReadRows.{among-from, rows-read, with-columns}
 use Rattle.mps_reading.proofs.Stated.{IsWithColumns}
 use Rattle.mps_writer.specs.MpsText.{mps_text}
-use Rattle.mps_plans.specs.PlanPrograms.{AreValuesOf, HaveOneLineNames, IsProgramOf, PlanWithValues, RowSays}
 use Rattle.mps_plans.proofs.Counts.{few-instances, few-variables}
 use Rattle.mps_plans.proofs.NameLines.{row_name-line, variable_name-line}
 use Rattle.mps_plans.proofs.Values.{bounds-are, costs-are, plan-for, row-holds, rows-hold, values-for}

@@ -1,17 +1,8 @@
 -- Names of rows and variables have no line feed where the names of members have none.
-use Rattle.std.proofs.Common.{◌≡◌, ℕ, zero, suc, ◌-◌, Bool, true, false, ◌&&◌, not, List, [], ◌∷◌, ◌++◌, map, refl, ◌∙◌}
-use Rattle.std.specs.Prelude.{codes, slice_index_or}
-use Rattle.std.specs.List.{AllByRecursion, join_with_byte, list_all}
+use Rattle.mps_plans.proofs.Common.{◌≡◌, ℕ, zero, suc, ◌-◌, Bool, true, false, ◌&&◌, not, List, [], ◌∷◌, ◌++◌, map, refl, ◌∙◌, codes, slice_index_or, AllByRecursion, join_with_byte, list_all, SetLists, members, RowName, Var, kinds, no_kind, word_of_kind, full_name, member, position_at, row_name, set_of, variable_name, ends_line, is_one_line, HaveOneLineNames}
 use Rattle.std.proofs.lemmas.List.Folds.{list_all-append}
-use Rattle.model_sets.specs.Members.{SetLists, members}
 use Rattle.row_core.specs.declared.Index.{Index}
-use Rattle.row_core.specs.declared.RowName.{RowName}
-use Rattle.row_core.specs.declared.Var.{Var}
 use Rattle.row_core.specs.Equations.{equations, no_equation, word_of_equation}
-use Rattle.row_core.specs.Kinds.{kinds, no_kind, word_of_kind}
-use Rattle.row_core.specs.NameTexts.{full_name, member, position_at, row_name, set_of, variable_name}
-use Rattle.mps_meaning.specs.Lines.{ends_line, is_one_line}
-use Rattle.mps_plans.specs.PlanPrograms.{HaveOneLineNames}
 
 -- ---- lists
 

@@ -1,24 +1,11 @@
 -- The program of data with a region and a year and nothing else, written down by hand, and near misses of it.
-use Rattle.std.proofs.Common.{◌≡◌, ℕ, Bool, true, false, List, [], ◌∷◌, drop, map, ap, sym, refl, arith, true≢false}
+use Rattle.mps_plans.proofs.Common.{◌≡◌, ℕ, Bool, true, false, List, [], ◌∷◌, drop, map, ap, sym, refl, arith, true≢false, AllByRecursion, enumerate_from, list_all, Data, Var, kind_is_free, all_variables, index, name_at, Feasible, Meets, model_period_cost_by_region, re_total_production_of_target_fuel_annual, total_capacity_in_reserve_margin, total_discounted_cost, total_re_production_annual, Name, EachIsAtLeast, HoldsOf, Letter, MeetsProgram, Numbers, Program, ProgramColumn, ProgramRow, program_column, AreValuesOf, IsProgramOf}
 use Rattle.std.specs.Prelude.{ℤ, pos, negsuc, ◌≤ℤ◌, ◌↔◌, codes, is_some, None, Some}
 use Rattle.std.specs.Fmt.{digits}
-use Rattle.std.specs.List.{AllByRecursion, enumerate_from, list_all}
 use Rattle.std.proofs.lemmas.Int.{ints}
-use Rattle.model_sets.specs.Data.{Data}
-use Rattle.row_core.specs.declared.Var.{Var}
 use Rattle.row_core.specs.declared.equation_numbers.TheConstants.{ACC4, RE2, RE3, RE4, RM1, TDC2}
-use Rattle.row_core.specs.Kinds.{kind_is_free}
-use Rattle.named_equations.specs.Existence.{all_variables}
-use Rattle.named_equations.specs.Indices.{index}
-use Rattle.named_equations.specs.Instances.{name_at}
-use Rattle.named_equations.specs.Plans.{Feasible, Meets}
-use Rattle.named_equations.specs.Variables.{model_period_cost_by_region, re_total_production_of_target_fuel_annual, total_capacity_in_reserve_margin, total_discounted_cost, total_re_production_annual}
 use Rattle.named_equations.proofs.InstanceTests.{Has-variables}
 use Rattle.row_book.proofs.Lists.{all-has}
-use Rattle.mps_meaning.specs.Lines.{Name}
-use Rattle.mps_meaning.specs.Programs.{EachIsAtLeast, HoldsOf, Letter, MeetsProgram, Numbers, Program, ProgramColumn, ProgramRow}
-use Rattle.mps_reading.specs.RowPrograms.{program_column}
-use Rattle.mps_plans.specs.PlanPrograms.{AreValuesOf, IsProgramOf}
 use Rattle.mps_plans.proofs.Values.{plan-for, values-for}
 
 -- ---- data, and their program

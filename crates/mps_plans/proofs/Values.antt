@@ -1,29 +1,13 @@
 -- What values of columns come to in the program of rows.
-use Rattle.std.proofs.Common.{◌≡◌, ℕ, ◌+◌, ◌≤◌, ◌^◌, Bool, true, false, cond, List, [], ◌∷◌, ◌++◌, length, map, Some, None, refl, ap, ap₂, sym, ◌∙◌, subst, arith, inl, inr}
-use Rattle.std.specs.Prelude.{ℤ, pos, ◌+ℤ◌, ◌*ℤ◌, ◌≤ℤ◌, ◌↔◌, ◌==◌}
-use Rattle.std.specs.List.{AllByRecursion, enumerate_from, flat_map}
-use Rattle.std.specs.Str.{bytes_eq}
+use Rattle.mps_plans.proofs.Common.{◌≡◌, ℕ, ◌+◌, ◌≤◌, ◌^◌, Bool, true, false, cond, List, [], ◌∷◌, ◌++◌, length, map, Some, None, refl, ap, ap₂, sym, ◌∙◌, subst, arith, inl, inr, ℤ, pos, ◌+ℤ◌, ◌*ℤ◌, ◌≤ℤ◌, ◌↔◌, ◌==◌, AllByRecursion, enumerate_from, flat_map, bytes_eq, Row, Var, TOTAL_DISCOUNTED_COST, kind_is_free, ascends, variables_of, contents_of, AllStand, HaveRightSigns, IsRight, Name, EachHolds, EachIsAtLeast, HoldsOf, IsAtLeast, Numbers, StandsTo, sum_of, IsFrom, all-numbered, all-with, lettered-apart, name-itself, numbered-from, column_of, cost_of_column, letter_of, name_of_column, place_of, program_column, program_row, Among, IsBefore, all-after, among-after, place-first, place-later, AreValuesOf}
 use Rattle.exact_num.proofs.Ring.{zero-*ℤ, zero-+ℤ}
-use Rattle.row_core.specs.declared.Row.{Row}
 use Rattle.row_core.specs.declared.Sense.{Sense}
 use Rattle.row_core.specs.declared.Sense.TheVariants.{Least, Equal, Most}
-use Rattle.row_core.specs.declared.Var.{Var}
-use Rattle.row_core.specs.declared.kind_numbers.TheConstants.{TOTAL_DISCOUNTED_COST}
-use Rattle.row_core.specs.Kinds.{kind_is_free}
-use Rattle.row_core.specs.Numbers.{ascends, variables_of}
 use Rattle.row_core.specs.Order.{var_cmp}
 use Rattle.row_core.specs.Rows.{RowHolds, row_sum}
 use Rattle.row_core.specs.Statements.{Stands}
 use Rattle.row_core.proofs.AscendingLaws.{ascends-tail}
-use Rattle.row_core.specs.Contents.{contents_of}
 use Rattle.certificate_checker.specs.Costs.{cost_of, model_cost}
-use Rattle.certificate_checker.specs.Plans.{AllStand, HaveRightSigns, IsRight}
-use Rattle.mps_meaning.specs.Lines.{Name}
-use Rattle.mps_meaning.specs.Programs.{EachHolds, EachIsAtLeast, HoldsOf, IsAtLeast, Numbers, StandsTo, sum_of}
-use Rattle.mps_meaning.proofs.NumberedLaws.{IsFrom, all-numbered, all-with, lettered-apart, name-itself, numbered-from}
-use Rattle.mps_reading.specs.RowPrograms.{column_of, cost_of_column, letter_of, name_of_column, place_of, program_column, program_row}
-use Rattle.mps_reading.proofs.Places.{Among, IsBefore, all-after, among-after, place-first, place-later}
-use Rattle.mps_plans.specs.PlanPrograms.{AreValuesOf}
 
 -- ---- the value of a variable's column
 

@@ -1,24 +1,9 @@
 -- The definitions, computed on small examples, and on near misses.
-use Rattle.std.proofs.Common.{◌≡◌, ℕ, pos, negsuc, List, [], ◌∷◌, None, Some, true, false, refl}
-use Rattle.std.specs.Prelude.{codes}
+use Rattle.plan_compare.proofs.Common.{◌≡◌, ℕ, pos, negsuc, List, [], ◌∷◌, None, Some, true, false, refl, codes, escaped, fields_text, is_blank, in_range, lowest, Rational, order_of, pair, whole, SetLists, Var, millionths, millionths_text, difference, changes, value_there, kind_text, members_text, section_text, counterpart, greatest_first, at_least, at_most, head_text, Side, sum_of, sums}
 use Rattle.std.specs.Fmt.{digits}
-use Rattle.csv.specs.Writing.{escaped, fields_text, is_blank}
 use Rattle.exact_num.specs.Gcd.{gcd_of, gcd_within}
-use Rattle.exact_num.specs.Range.{in_range}
-use Rattle.exact_num.specs.Rational.{lowest, Rational, order_of, pair, whole}
-use Rattle.model_sets.specs.Members.{SetLists}
-use Rattle.row_core.specs.declared.Var.{Var}
 use Rattle.row_core.specs.declared.kind_numbers.TheConstants as k
-use Rattle.scaled_decimals.specs.PrintedPlaces.{millionths, millionths_text}
-use Rattle.plan_compare.specs.Amounts.{difference}
 use Rattle.value_millionths.specs.Shown.{shown}
-use Rattle.plan_compare.specs.Changes.{changes, value_there}
-use Rattle.plan_compare.specs.Comparisons.{kind_text, members_text, section_text}
-use Rattle.plan_compare.specs.Counterparts.{counterpart}
-use Rattle.plan_compare.specs.GreatestFirst.{greatest_first}
-use Rattle.plan_compare.specs.Heads.{at_least, at_most, head_text}
-use Rattle.plan_compare.specs.Scenarios.{Side}
-use Rattle.plan_compare.specs.Sums.{sum_of, sums}
 
 -- ---- numbers
 

@@ -1,11 +1,8 @@
 -- A stable sort by how far the size is below a greatest one is the order of the greatest first: there is only one such order.
-use Rattle.std.proofs.Common.{◌≡◌, ℕ, suc, ◌-◌, ◌<◌, ◌≤◌, Bool, true, false, not, ◌&&◌, cond, List, [], ◌∷◌, length, get_or, refl, ap, ap₂, sym, ◌∙◌, arith}
-use Rattle.std.specs.Prelude.{nat_eq, nat_le}
+use Rattle.plan_compare.proofs.Common.{◌≡◌, ℕ, suc, ◌-◌, ◌<◌, ◌≤◌, Bool, true, false, not, ◌&&◌, cond, List, [], ◌∷◌, length, get_or, refl, ap, ap₂, sym, ◌∙◌, arith, nat_eq, nat_le, nat_tests, greatest_first, inserted}
 use Rattle.std.specs.List.{AllByRecursion, filter}
 use Rattle.std.specs.List.Sorted.{IsNonDecreasingBy, IsStableByKey, ties}
 use Rattle.std.specs.Ordering.{is_lt, nat_cmp}
-use Rattle.std.proofs.lemmas.Bool.Decides.{nat_tests}
-use Rattle.plan_compare.specs.GreatestFirst.{greatest_first, inserted}
 
 -- elements of one number tie, and no others
 tied : (i j : ℕ) → (not (is_lt (nat_cmp i j)) && not (is_lt (nat_cmp j i))) ≡ nat_eq i j

@@ -1,15 +1,8 @@
 -- What the first lines promise of the least costs.
-use Rattle.std.proofs.Common.{◌≡◌, ℕ, ◌<◌, ℤ, pos, ◌+ℤ◌, ◌-ℤ◌, ◌*ℤ◌, ◌<ℤ◌, ◌≤ℤ◌, neg_ℤ, Option, Some, None, refl, ap, sym, subst, arith}
-use Rattle.std.proofs.lemmas.Int.{ints}
-use Rattle.exact_num.specs.Rational.{Rational}
-use Rattle.exact_num.proofs.Integers.{*ℤ-≤ℤ, ≤ℤ_cancel}
-use Rattle.exact_num.proofs.Ring.{products, ring}
+use Rattle.plan_compare.proofs.Common.{◌≡◌, ℕ, ◌<◌, ℤ, pos, ◌+ℤ◌, ◌-ℤ◌, ◌*ℤ◌, ◌<ℤ◌, ◌≤ℤ◌, neg_ℤ, Option, Some, None, refl, ap, sym, subst, arith, ints, Rational, *ℤ-≤ℤ, ≤ℤ_cancel, products, ring, down-below, fitting-is, million, up-above, difference, at_least, at_most}
 use Rattle.model_sets.specs.Data.{Data}
 use Rattle.named_equations.specs.Plans.{cost}
 use Rattle.value_millionths.specs.Outwards.{down, up}
-use Rattle.value_millionths.proofs.OutwardLaws.{down-below, fitting-is, million, up-above}
-use Rattle.plan_compare.specs.Amounts.{difference}
-use Rattle.plan_compare.specs.Heads.{at_least, at_most}
 use Rattle.plan_compare.specs.LeastCosts.{IsAtLeastDifference, IsAtMostDifference, IsBound, IsCost, IsLeastCost, raised}
 
 -- ---- a bound, and what a plan costs

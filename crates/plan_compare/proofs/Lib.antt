@@ -1,3 +1,4 @@
+mod Common
 mod Examples
 pub mod GreatestFirstLaws
 pub mod LeastCostLaws

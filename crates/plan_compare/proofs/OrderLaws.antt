@@ -1,9 +1,5 @@
 -- What the order of the greatest first is: no element is greater than one before it, and those of one size are those that there were, in their order.
-use Rattle.std.proofs.Common.{◌≡◌, ℕ, ◌<◌, ◌≤◌, Bool, true, false, cond, List, [], ◌∷◌, refl, ap, ◌∙◌, arith}
-use Rattle.std.specs.Prelude.{nat_eq, nat_le}
-use Rattle.std.specs.List.{AllByRecursion}
-use Rattle.std.proofs.lemmas.Bool.Decides.{nat_tests}
-use Rattle.plan_compare.specs.GreatestFirst.{Falls, greatest_first, inserted, of_size}
+use Rattle.plan_compare.proofs.Common.{◌≡◌, ℕ, ◌<◌, ◌≤◌, Bool, true, false, cond, List, [], ◌∷◌, refl, ap, ◌∙◌, arith, nat_eq, nat_le, AllByRecursion, nat_tests, Falls, greatest_first, inserted, of_size}
 
 module _ {X : Type 0} (size : X → ℕ) where
   all_inserted : (P : X → Type 0) (x : X) (ys : List X) → P x → AllByRecursion P ys → AllByRecursion P (inserted size x ys)

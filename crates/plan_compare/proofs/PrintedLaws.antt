@@ -1,18 +1,7 @@
 -- A number of millionths over a million prints as that number.
-use Rattle.std.proofs.Common.{◌≡◌, ℕ, ◌<◌, ◌^◌, ℤ, pos, negsuc, ◌+ℤ◌, ◌-ℤ◌, ◌*ℤ◌, ◌<ℤ◌, ◌≤ℤ◌, neg_ℤ, Bool, true, false, List, Some, refl, arith, if◌then◌else◌}
-use Rattle.std.proofs.lemmas.Int.{ints}
-use Rattle.std.specs.Prelude.{FitsSigned, IsTrue, ◌↔◌}
-use Rattle.std.specs.Int.{w128}
+use Rattle.plan_compare.proofs.Common.{◌≡◌, ℕ, ◌<◌, ◌^◌, ℤ, pos, negsuc, ◌+ℤ◌, ◌-ℤ◌, ◌*ℤ◌, ◌<ℤ◌, ◌≤ℤ◌, neg_ℤ, Bool, true, false, List, Some, refl, arith, if◌then◌else◌, ints, FitsSigned, IsTrue, ◌↔◌, w128, InRange, in_range, InRange-from_test, Rational, lowest, ≤ℤ_cancel, ring, millionths, millionths_text, number_or, both_near, million, million_nonzero}
 use Rattle.std.specs.Int.Signed.{mag}
-use Rattle.exact_num.specs.Range.{InRange, in_range}
-use Rattle.exact_num.proofs.RangeLaws.{InRange-from_test}
-use Rattle.exact_num.specs.Rational.{Rational, lowest}
-use Rattle.exact_num.proofs.Integers.{≤ℤ_cancel}
 use Rattle.exact_num.proofs.RationalLaws.{lowest-IsLowest, lowest-cross}
-use Rattle.exact_num.proofs.Ring.{ring}
-use Rattle.scaled_decimals.specs.PrintedPlaces.{millionths, millionths_text}
-use Rattle.plan_compare.specs.Amounts.{number_or}
-use Rattle.value_millionths.proofs.OutwardLaws.{both_near, million, million_nonzero}
 
 -- twice a whole number between -1 and 1
 none : (k d : ℤ) → pos 0 <ℤ d → ((k *ℤ d) +ℤ (k *ℤ d)) ≤ℤ d → neg_ℤ d ≤ℤ ((k *ℤ d) +ℤ (k *ℤ d)) → k ≡ pos 0

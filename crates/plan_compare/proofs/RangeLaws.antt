@@ -1,7 +1,5 @@
 -- Numbers, from one on.
-use Rattle.std.proofs.Common.{◌≡◌, ℕ, suc, ◌+◌, ◌-◌, ◌<◌, Bool, true, false, ◌||◌, List, ◌∷◌, map, Option, ℤ, sym, ap, ◌∙◌, arith}
-use Rattle.std.specs.List.{list_any, range_with_len}
-use Rattle.plan_compare.specs.Amounts.{sum_from, sum_of_two}
+use Rattle.plan_compare.proofs.Common.{◌≡◌, ℕ, suc, ◌+◌, ◌-◌, ◌<◌, Bool, true, false, ◌||◌, List, ◌∷◌, map, Option, ℤ, sym, ap, ◌∙◌, arith, list_any, range_with_len, sum_from, sum_of_two}
 
 abbrev pub from_to : ℕ → ℕ → List ℕ
 from_to year end = range_with_len year (end - year)

@@ -1,11 +1,5 @@
 -- No size of a change is above the greatest.
-use Rattle.std.proofs.Common.{◌≡◌, ℕ, ◌<◌, ◌≤◌, ◌^◌, ℤ, ◌-ℤ◌, Bool, true, false, Option, Some, None, refl, arith, if◌then◌else◌}
-use Rattle.std.specs.Prelude.{unsigned_abs}
-use Rattle.exact_num.specs.Range.{in_range}
-use Rattle.exact_num.proofs.RangeLaws.{InRange-from_test}
-use Rattle.plan_compare.specs.declared.change.Change.{Change}
-use Rattle.plan_compare.specs.Amounts.{difference, size}
-use Rattle.plan_compare.specs.GreatestFirst.{size_of_change}
+use Rattle.plan_compare.proofs.Common.{◌≡◌, ℕ, ◌<◌, ◌≤◌, ◌^◌, ℤ, ◌-ℤ◌, Bool, true, false, Option, Some, None, refl, arith, if◌then◌else◌, unsigned_abs, in_range, InRange-from_test, Change, difference, size, size_of_change}
 
 same : (n : ℕ) → n ≤ n
 same n = omega arith

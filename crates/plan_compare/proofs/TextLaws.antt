@@ -1,16 +1,8 @@
 -- What is made of a list is what is made of its elements, one after another.
-use Rattle.std.proofs.Common.{◌≡◌, ℕ, ◌+◌, ◌<◌, Bool, List, [], ◌∷◌, ◌++◌, length, map, filter, drop, get_or, sym, ap, ◌∙◌, append_assoc}
-use Rattle.std.specs.List.{flat_map}
+use Rattle.plan_compare.proofs.Common.{◌≡◌, ℕ, ◌+◌, ◌<◌, Bool, List, [], ◌∷◌, ◌++◌, length, map, filter, drop, get_or, sym, ap, ◌∙◌, append_assoc, flat_map, drop_more, map-append, default_writer, row_text, Rational, Frac, Var, Fields, records_text}
 use Rattle.std.proofs.lemmas.Grind.{flat_map-append}
-use Rattle.std.proofs.lemmas.List.{drop_more, map-append}
 use Rattle.std.proofs.lemmas.List.Elements.{filter-append}
-use Rattle.csv.specs.Writing.{default_writer, row_text}
-use Rattle.exact_num.specs.Rational.{Rational}
-use Rattle.exact_num.specs.declared.fraction.Frac.{Frac}
-use Rattle.row_core.specs.declared.Var.{Var}
 use Rattle.row_core.specs.Plans.{valued}
-use Rattle.plan_files.specs.Files.{Fields}
-use Rattle.plan_files.specs.Texts.{records_text}
 
 -- what is made of two lists, where it is one after the other
 abbrev pub IsJoined : {A B : Type 0} → (List A → List B) → Type 0

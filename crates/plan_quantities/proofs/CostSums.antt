@@ -1,22 +1,8 @@
 -- Emissions and costs of a feasible plan are their defining sums.
-use Rattle.std.proofs.Common.{◌≡◌, ℕ, ℤ, ◌+ℤ◌, ◌-ℤ◌, ◌*ℤ◌, Bool, true, filter, sym, ap, ap₂, ◌∙◌}
-use Rattle.exact_num.proofs.Ring.{products, ring, *ℤ_assoc, *ℤ-+ℤ}
-use Rattle.model_sets.specs.Data.{Data}
+use Rattle.plan_quantities.proofs.Common.{◌≡◌, ℕ, ℤ, ◌+ℤ◌, ◌-ℤ◌, ◌*ℤ◌, Bool, true, filter, sym, ap, ap₂, ◌∙◌, products, ring, *ℤ_assoc, *ℤ-+ℤ, Data, Var, factor_scale, scale_of, sum_over, capital_cost, emission_activity_ratio, emissions_penalty, fixed_cost, variable_cost, Feasible, cost, all_years, emissions, modes, regions, technologies, timeslices, years_in_all, years_since_first, new_capacity, total_capacity_annual, total_annual_technology_activity_by_mode, capital_investment, discounted_capital_investment, salvage_value, discounted_salvage_value, annual_variable_operating_cost, annual_fixed_operating_cost, operating_cost, discounted_operating_cost, annual_technology_emission_by_mode, annual_technology_emission, annual_technology_emission_penalty_by_emission, annual_technology_emissions_penalty, discounted_technology_emissions_penalty, total_discounted_cost_by_technology, total_discounted_cost, annual_emissions, emits_in_mode, capital_factor_of, operating_factor_of, sum_over-same, sum_over-times, cost_of_year, investment, operation, paid_for_one, part_left, penalty, salvage, three_factors, two_factors, activity_in, capacity_in_all, emissions_of_year, over_slices_and_modes, In, positions-in}
 use Rattle.model_sets.specs.Names as sets
-use Rattle.row_core.specs.declared.Var.{Var}
-use Rattle.named_equations.specs.Notation.{factor_scale, scale_of, sum_over}
-use Rattle.named_equations.specs.Parameters.{capital_cost, emission_activity_ratio, emissions_penalty, fixed_cost, variable_cost}
-use Rattle.named_equations.specs.Plans.{Feasible, cost}
-use Rattle.named_equations.specs.Positions.{all_years, emissions, modes, regions, technologies, timeslices, years_in_all, years_since_first}
-use Rattle.named_equations.specs.Variables.{new_capacity, total_capacity_annual, total_annual_technology_activity_by_mode, capital_investment, discounted_capital_investment, salvage_value, discounted_salvage_value, annual_variable_operating_cost, annual_fixed_operating_cost, operating_cost, discounted_operating_cost, annual_technology_emission_by_mode, annual_technology_emission, annual_technology_emission_penalty_by_emission, annual_technology_emissions_penalty, discounted_technology_emissions_penalty, total_discounted_cost_by_technology, total_discounted_cost, annual_emissions}
-use Rattle.named_equations.specs.Where.{emits_in_mode}
-use Rattle.named_equations.specs.WrittenFactors.{capital_factor_of, operating_factor_of}
-use Rattle.named_equations.proofs.TermMeaning.{sum_over-same, sum_over-times}
-use Rattle.plan_quantities.specs.CostSums.{cost_of_year, investment, operation, paid_for_one, part_left, penalty, salvage, three_factors, two_factors}
-use Rattle.plan_quantities.specs.Sums.{activity_in, capacity_in_all, emissions_of_year, over_slices_and_modes}
 use Rattle.plan_quantities.proofs.EnergySums.{capacity-sum, zero-product, zero-ratio}
 use Rattle.plan_quantities.proofs.MetEquations.{acc3-met, cc1-met, cc2-met, e1-met, e2-met, e3-met, e4-met, e5-met, e6-met, oc1-met, oc2-met, oc3-met, oc4-met, sv-met, sv4-met, tdc1-met, tdc2-met}
-use Rattle.row_book.proofs.Subscripts.{In, positions-in}
 use Rattle.plan_quantities.proofs.SumLaws.{all-filtered, sum-exchanged, sum-filtered, sum-same, sum-times}
 
 -- ---- one step after another

@@ -1,23 +1,7 @@
 -- Capacity, activity, energy and trade of a feasible plan are their defining sums.
-use Rattle.std.proofs.Common.{◌≡◌, ℕ, ℤ, pos, ◌+ℤ◌, ◌*ℤ◌, Bool, true, false, List, [], ◌∷◌, filter, refl, sym, ap, ap₂, ◌∙◌}
-use Rattle.std.specs.List.{list_any}
-use Rattle.std.specs.Ordering.{int_eq}
-use Rattle.std.specs.Prelude.{not, ◌||◌}
-use Rattle.std.proofs.lemmas.Bool.Decides.{Decides-int_eq}
-use Rattle.exact_num.proofs.Ring.{products, ring, *ℤ_assoc, *ℤ-zero}
-use Rattle.model_sets.specs.Data.{Data}
+use Rattle.plan_quantities.proofs.Common.{◌≡◌, ℕ, ℤ, pos, ◌+ℤ◌, ◌*ℤ◌, Bool, true, false, List, [], ◌∷◌, filter, refl, sym, ap, ap₂, ◌∙◌, list_any, int_eq, not, ◌||◌, Decides-int_eq, products, ring, *ℤ_assoc, *ℤ-zero, Data, Var, scale_of, sum_over, input_activity_ratio, output_activity_ratio, residual_capacity, year_split, Feasible, modes, timeslices, rate_of_activity, total_capacity_annual, rate_of_total_activity, rate_of_production_by_technology_by_mode, rate_of_production_by_technology, rate_of_use_by_technology_by_mode, rate_of_use_by_technology, trade_annual, production_by_technology, use_by_technology, total_technology_annual_activity, production_by_technology_annual, use_by_technology_annual, is_not_zero, produces, uses, sum_over-same, sum_over-times, sum_over-zero, activity_in, activity_of_year, capacity_in_all, over_slices_and_modes, production_of_year, trade_of_year, use_of_year, In, positions-in}
 use Rattle.model_sets.specs.Names as sets
-use Rattle.row_core.specs.declared.Var.{Var}
-use Rattle.named_equations.specs.Notation.{scale_of, sum_over}
-use Rattle.named_equations.specs.Parameters.{input_activity_ratio, output_activity_ratio, residual_capacity, year_split}
-use Rattle.named_equations.specs.Plans.{Feasible}
-use Rattle.named_equations.specs.Positions.{modes, timeslices}
-use Rattle.named_equations.specs.Variables.{rate_of_activity, total_capacity_annual, rate_of_total_activity, rate_of_production_by_technology_by_mode, rate_of_production_by_technology, rate_of_use_by_technology_by_mode, rate_of_use_by_technology, trade_annual, production_by_technology, use_by_technology, total_technology_annual_activity, production_by_technology_annual, use_by_technology_annual}
-use Rattle.named_equations.specs.Where.{is_not_zero, produces, uses}
-use Rattle.named_equations.proofs.TermMeaning.{sum_over-same, sum_over-times, sum_over-zero}
-use Rattle.plan_quantities.specs.Sums.{activity_in, activity_of_year, capacity_in_all, over_slices_and_modes, production_of_year, trade_of_year, use_of_year}
 use Rattle.plan_quantities.proofs.MetEquations.{aac1-met, acc1-met, acc2-met, caa1-met, caa2-met, caa3-met, eba1-met, eba2-met, eba4-met, eba5-met, ebb3-met, re1-met, re5-met}
-use Rattle.row_book.proofs.Subscripts.{In, positions-in}
 use Rattle.plan_quantities.proofs.SumLaws.{all-filtered, sum-filtered, sum-same, sum-times}
 
 -- ---- ratios

@@ -1,3 +1,4 @@
+mod Common
 mod SumLaws
 mod MetEquations
 mod EnergySums

@@ -1,32 +1,10 @@
 -- What a feasible plan meets at the positions of members: the equations from which its quantities come, one by one.
-use Rattle.std.proofs.Common.{◌≡◌, ℕ, ℤ, pos, ◌+ℤ◌, ◌-ℤ◌, ◌*ℤ◌, Bool, true, false, List, [], ◌∷◌, refl, sym, ap, ap₂, ◌∙◌, subst, inl, inr}
+use Rattle.plan_quantities.proofs.Common.{◌≡◌, ℕ, ℤ, pos, ◌+ℤ◌, ◌-ℤ◌, ◌*ℤ◌, Bool, true, false, List, [], ◌∷◌, refl, sym, ap, ap₂, ◌∙◌, subst, inl, inr, list_any, nat_eq, not, ◌&&◌, if◌then◌else◌, products, *ℤ-zero, Data, Index, RowName, Var, CAA1, CAA2, CAA3, EBA1, EBA2, EBA4, EBA5, EBB3, ACC1, ACC2, ACC3, CC1, CC2, SV1, SV2, SV3, SV4, OC1, OC2, OC3, OC4, E1, E2, E3, E4, E5, TDC1, TDC2, AAC1, RE1, RE5, E6, Holds, at_rltfmy, at_rltfy, at_rlty, at_rrrfy, at_rtfy, at_rtemy, at_rtey, at_rtmy, at_rty, at_rey, at_ry, equation_numbers, instances, name_at, stands_at, subscripts_of, factor_scale, scale_of, sum_over, capital_cost, emission_activity_ratio, emissions_penalty, fixed_cost, input_activity_ratio, output_activity_ratio, residual_capacity, variable_cost, year_split, Feasible, Meets, MeetsEach, emissions, modes, technologies, timeslices, years_in_all, years_since_first, rate_of_activity, new_capacity, trade, accumulated_new_capacity, total_capacity_annual, rate_of_total_activity, rate_of_production_by_technology_by_mode, rate_of_production_by_technology, rate_of_use_by_technology_by_mode, rate_of_use_by_technology, trade_annual, production_by_technology, use_by_technology, total_annual_technology_activity_by_mode, capital_investment, discounted_capital_investment, salvage_value, discounted_salvage_value, annual_variable_operating_cost, annual_fixed_operating_cost, operating_cost, discounted_operating_cost, annual_technology_emission_by_mode, annual_technology_emission, annual_technology_emission_penalty_by_emission, annual_technology_emissions_penalty, discounted_technology_emissions_penalty, total_discounted_cost_by_technology, total_discounted_cost, total_technology_annual_activity, production_by_technology_annual, use_by_technology_annual, annual_emissions, emits_in_mode, emitting_modes, produces, produces_in_mode, producing_modes, uses, uses_in_mode, using_modes, annuity_of, capital_factor_of, operating_factor_of, recovery_factor_of, salvage_fraction_of, Has, Has-instances, paid_for_one, part_left, two_factors, AreValues, In, index-from_values, values-rltfmy, values-rltfy, values-rlty, values-rrrfy, values-rtfy, values-rtemy, values-rtey, values-rtmy, values-rty, values-rey, values-ry}
 use Rattle.std.specs.Cmp.Derive.{both_true}
-use Rattle.std.specs.List.{list_any}
-use Rattle.std.specs.Prelude.{nat_eq, not, ◌&&◌, if◌then◌else◌}
-use Rattle.exact_num.proofs.Ring.{products, *ℤ-zero}
-use Rattle.model_sets.specs.Data.{Data}
 use Rattle.model_sets.specs.Names as sets
-use Rattle.row_core.specs.declared.Index.{Index}
-use Rattle.row_core.specs.declared.RowName.{RowName}
-use Rattle.row_core.specs.declared.Var.{Var}
-use Rattle.row_core.specs.declared.equation_numbers.TheConstants.{CAA1, CAA2, CAA3, EBA1, EBA2, EBA4, EBA5, EBB3, ACC1, ACC2, ACC3, CC1, CC2, SV1, SV2, SV3, SV4, OC1, OC2, OC3, OC4, E1, E2, E3, E4, E5, TDC1, TDC2, AAC1, RE1, RE5, E6}
-use Rattle.row_core.specs.Statements.{Holds}
 use Rattle.named_equations.specs.Capacity.{years_counting}
 use Rattle.named_equations.specs.CapitalCosts.{paid_at_once, recovered}
-use Rattle.named_equations.specs.Indices.{at_rltfmy, at_rltfy, at_rlty, at_rrrfy, at_rtfy, at_rtemy, at_rtey, at_rtmy, at_rty, at_rey, at_ry}
-use Rattle.named_equations.specs.Instances.{equation_numbers, instances, name_at, stands_at, subscripts_of}
-use Rattle.named_equations.specs.Notation.{factor_scale, scale_of, sum_over}
-use Rattle.named_equations.specs.Parameters.{capital_cost, emission_activity_ratio, emissions_penalty, fixed_cost, input_activity_ratio, output_activity_ratio, residual_capacity, variable_cost, year_split}
-use Rattle.named_equations.specs.Plans.{Feasible, Meets, MeetsEach}
-use Rattle.named_equations.specs.Positions.{emissions, modes, technologies, timeslices, years_in_all, years_since_first}
 use Rattle.named_equations.specs.Salvage.{has_sv1, has_sv2}
-use Rattle.named_equations.specs.Variables.{rate_of_activity, new_capacity, trade, accumulated_new_capacity, total_capacity_annual, rate_of_total_activity, rate_of_production_by_technology_by_mode, rate_of_production_by_technology, rate_of_use_by_technology_by_mode, rate_of_use_by_technology, trade_annual, production_by_technology, use_by_technology, total_annual_technology_activity_by_mode, capital_investment, discounted_capital_investment, salvage_value, discounted_salvage_value, annual_variable_operating_cost, annual_fixed_operating_cost, operating_cost, discounted_operating_cost, annual_technology_emission_by_mode, annual_technology_emission, annual_technology_emission_penalty_by_emission, annual_technology_emissions_penalty, discounted_technology_emissions_penalty, total_discounted_cost_by_technology, total_discounted_cost, total_technology_annual_activity, production_by_technology_annual, use_by_technology_annual, annual_emissions}
-use Rattle.named_equations.specs.Where.{emits_in_mode, emitting_modes, produces, produces_in_mode, producing_modes, uses, uses_in_mode, using_modes}
-use Rattle.named_equations.specs.WrittenFactors.{annuity_of, capital_factor_of, operating_factor_of, recovery_factor_of, salvage_fraction_of}
-use Rattle.row_core.proofs.Members.{Has}
-use Rattle.named_equations.proofs.InstanceTests.{Has-instances}
-use Rattle.plan_quantities.specs.CostSums.{paid_for_one, part_left, two_factors}
-use Rattle.row_book.proofs.Subscripts.{AreValues, In, index-from_values, values-rltfmy, values-rltfy, values-rlty, values-rrrfy, values-rtfy, values-rtemy, values-rtey, values-rtmy, values-rty, values-rey, values-ry}
 
 each-met : (places : ℕ) (d : Data) (q : ℕ) (x : Var → ℤ) (names : List RowName) (name : RowName) → MeetsEach places d q x names → Has names name → Meets places d q x name
 each-met places d q x [] name met has = absurd has

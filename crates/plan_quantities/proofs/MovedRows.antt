@@ -1,13 +1,7 @@
 -- What a row says of a plan in which one variable is moved.
-use Rattle.std.proofs.Common.{◌≡◌, ℤ, pos, neg_ℤ, ◌+ℤ◌, ◌*ℤ◌, List, [], ◌∷◌, ap, ◌∙◌, arith}
-use Rattle.std.proofs.lemmas.Int.{ints}
-use Rattle.exact_num.proofs.Ring.{ring}
+use Rattle.plan_quantities.proofs.Common.{◌≡◌, ℤ, pos, neg_ℤ, ◌+ℤ◌, ◌*ℤ◌, List, [], ◌∷◌, ap, ◌∙◌, arith, ints, ring, Var, row_sum, Stands, alone}
 use Rattle.row_core.specs.declared.Sense.{Sense}
 use Rattle.row_core.specs.declared.Sense.TheVariants.{Least, Equal, Most}
-use Rattle.row_core.specs.declared.Var.{Var}
-use Rattle.row_core.specs.Rows.{row_sum}
-use Rattle.row_core.specs.Statements.{Stands}
-use Rattle.row_core.specs.Values.{alone}
 
 -- the plan over b times its denominator, with m more at p
 abbrev pub moved : ℤ → (Var → ℤ) → Var → ℤ → Var → ℤ

@@ -1,35 +1,6 @@
 -- One technology that makes a fuel, at an investment of 5 and running costs of 3 for each unit, and a demand of 10: the price of the fuel is 8.
-use Rattle.std.proofs.Common.{◌≡◌, ◌≢◌, ℕ, ◌-◌, ◌*◌, ◌^◌, ℤ, pos, neg_ℤ, ◌+ℤ◌, ◌*ℤ◌, Bool, true, false, List, [], ◌∷◌, map, refl, sym, ap, ◌∙◌, arith, eq-eqb, true≢false}
-use Rattle.std.specs.List.{list_all}
-use Rattle.std.specs.Ordering.{is_eq}
-use Rattle.std.specs.Prelude.{◌&&◌, ◌||◌, ◌≤ℤ◌, codes, if◌then◌else◌, int_le, nat_eq, slice_index_or}
-use Rattle.std.proofs.lemmas.Bool.{and_parts}
-use Rattle.std.proofs.lemmas.Int.{ints}
-use Rattle.exact_num.specs.Rational.{pair, whole}
-use Rattle.exact_num.proofs.Integers.{≤ℤ-*ℤ}
-use Rattle.exact_num.proofs.Ring.{ring}
-use Rattle.discount_factors.specs.Factors.{capital_factor, discounted, half_year_root, operating_factor, root_from, salvage_fraction}
-use Rattle.model_sets.specs.Data.{Data, Default}
-use Rattle.model_sets.specs.declared.param_numbers.TheConstants.{ANNUAL_EMISSION_LIMIT, AVAILABILITY_FACTOR, CAPACITY_FACTOR, CAPACITY_TO_ACTIVITY_UNIT, CAPITAL_COST, DEPRECIATION_METHOD, FIXED_COST, MODEL_PERIOD_EMISSION_LIMIT, OPERATIONAL_LIFE, OUTPUT_ACTIVITY_RATIO, SPECIFIED_ANNUAL_DEMAND, SPECIFIED_DEMAND_PROFILE, TOTAL_ANNUAL_MAX_CAPACITY, TOTAL_ANNUAL_MAX_CAPACITY_INVESTMENT, TOTAL_TECHNOLOGY_ANNUAL_ACTIVITY_UPPER_LIMIT, VARIABLE_COST, YEAR_SPLIT}
-use Rattle.row_core.specs.declared.Index.{Index}
-use Rattle.row_core.specs.declared.RowName.{RowName}
-use Rattle.row_core.specs.declared.Var.{Var}
-use Rattle.row_core.specs.declared.equation_numbers.TheConstants.{ACC3, CAA1, CAA2, CAA3, CAA4, CC1, CC2, E4, E5, EBA1, EBA2, EBA3, EBA6, EBA7, EBA8, EBA9, EBA11, EQ_SPECIFIED_DEMAND, OC1, OC2, OC3, OC4, SV3, SV4, TDC1, TDC2}
-use Rattle.row_core.specs.declared.kind_numbers.TheConstants.{DEMAND, RATE_OF_DEMAND}
-use Rattle.row_core.specs.Kinds.{kind_is_free}
-use Rattle.row_core.specs.Order.{row_name_cmp}
-use Rattle.row_core.specs.Statements.{holds}
+use Rattle.plan_quantities.proofs.Common.{◌≡◌, ◌≢◌, ℕ, ◌-◌, ◌*◌, ◌^◌, ℤ, pos, neg_ℤ, ◌+ℤ◌, ◌*ℤ◌, Bool, true, false, List, [], ◌∷◌, map, refl, sym, ap, ◌∙◌, arith, eq-eqb, true≢false, list_all, is_eq, ◌&&◌, ◌||◌, ◌≤ℤ◌, codes, if◌then◌else◌, int_le, nat_eq, slice_index_or, and_parts, ints, pair, whole, ≤ℤ-*ℤ, ring, capital_factor, discounted, half_year_root, operating_factor, root_from, salvage_fraction, Data, Default, ANNUAL_EMISSION_LIMIT, AVAILABILITY_FACTOR, CAPACITY_FACTOR, CAPACITY_TO_ACTIVITY_UNIT, CAPITAL_COST, DEPRECIATION_METHOD, FIXED_COST, MODEL_PERIOD_EMISSION_LIMIT, OPERATIONAL_LIFE, OUTPUT_ACTIVITY_RATIO, SPECIFIED_ANNUAL_DEMAND, SPECIFIED_DEMAND_PROFILE, TOTAL_ANNUAL_MAX_CAPACITY, TOTAL_ANNUAL_MAX_CAPACITY_INVESTMENT, TOTAL_TECHNOLOGY_ANNUAL_ACTIVITY_UPPER_LIMIT, VARIABLE_COST, YEAR_SPLIT, Index, RowName, Var, ACC3, CAA1, CAA2, CAA3, CAA4, CC1, CC2, E4, E5, EBA1, EBA2, EBA3, EBA6, EBA7, EBA8, EBA9, EBA11, EQ_SPECIFIED_DEMAND, OC1, OC2, OC3, OC4, SV3, SV4, TDC1, TDC2, DEMAND, RATE_OF_DEMAND, kind_is_free, row_name_cmp, holds, all_variables, subscripts_of_kind, at_rlfy, indices, instances, is_instance, name_at, scale_of, Meets, cost, meets, says, capital_investment, demand, discounted_capital_investment, discounted_operating_cost, discounted_salvage_value, discounted_technology_emissions_penalty, new_capacity, operating_cost, production, rate_of_activity, total_capacity_annual, trade, use_of_fuel, Has-instances, Has-variables, CostsAtLeast, FeasibleWithMore, IsPromised, balance_at, says_more, Quantity, quantities, same-name}
 use Rattle.row_core.proofs.StatementLaws.{holds_sound}
-use Rattle.named_equations.specs.Existence.{all_variables, subscripts_of_kind}
-use Rattle.named_equations.specs.Indices.{at_rlfy}
-use Rattle.named_equations.specs.Instances.{indices, instances, is_instance, name_at}
-use Rattle.named_equations.specs.Notation.{scale_of}
-use Rattle.named_equations.specs.Plans.{Meets, cost, meets, says}
-use Rattle.named_equations.specs.Variables.{capital_investment, demand, discounted_capital_investment, discounted_operating_cost, discounted_salvage_value, discounted_technology_emissions_penalty, new_capacity, operating_cost, production, rate_of_activity, total_capacity_annual, trade, use_of_fuel}
-use Rattle.named_equations.proofs.InstanceTests.{Has-instances, Has-variables}
-use Rattle.plan_quantities.specs.Prices.{CostsAtLeast, FeasibleWithMore, IsPromised, balance_at, says_more}
-use Rattle.plan_quantities.specs.Quantities.{Quantity, quantities}
-use Rattle.certificate_checker.proofs.NamedSums.{same-name}
 use Rattle.plan_quantities.proofs.WholeTests.{all_at}
 
 -- ---- data

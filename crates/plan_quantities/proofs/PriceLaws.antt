@@ -1,56 +1,19 @@
 -- A plan that covers more of a fuel costs at least the bound and the price of what is more: with that much less Production it meets every row, at its
 -- scale, and in the row of the fuel's balance less Production is more on the right side.
-use Rattle.std.proofs.Common.{◌≡◌, ◌≢◌, ℕ, ◌*◌, ◌<◌, ℤ, pos, neg_ℤ, ◌+ℤ◌, ◌*ℤ◌, Bool, true, false, List, [], ◌∷◌, refl, sym, ap, ap₂, ◌∙◌, subst, inl, inr, arith, true≢false}
+use Rattle.plan_quantities.proofs.Common.{◌≡◌, ◌≢◌, ℕ, ◌*◌, ◌<◌, ℤ, pos, neg_ℤ, ◌+ℤ◌, ◌*ℤ◌, Bool, true, false, List, [], ◌∷◌, refl, sym, ap, ap₂, ◌∙◌, subst, inl, inr, arith, true≢false, is_eq, ints, Rational, whole, *ℤ_nonnegative, ring, *ℤ_assoc, *ℤ-one, +ℤ-zero, Data, Index, Row, RowName, Var, PRODUCTION, kind_is_free, ascends, row_name_cmp, value_in, number_at, row_sum, Holds, Stands, IsOver, AreMultipliersOver, Proves, bound_of, cost_of, model_cost, all_variables, exists, at_rlfy, instances, is_instance, scale_of, sum_over, trade_route, Meets, cost, all_years, regions, demand, production, total_discounted_cost, trade, use_of_fuel, variable, Contains-from_Has, Has, Has-from_Contains, Has-map, Contains-variables, Has-instances, Has-variables, alone-self, sum_over-same, sum_over-times, FeasibleWithLess, IsRowPromised, row_price_over, row_price, FeasibleWithMore, IsPromised, balance_at, price_of, price_over, production_entry, says_more, at_name, fractions, name-itself, same-name, weighted-one, weighted-plus, index-tidied, values-from_index, AreRowsOf}
 use Rattle.std.specs.Prelude.{◌≤ℤ◌, Contains, if◌then◌else◌}
-use Rattle.std.specs.Ordering.{is_eq}
-use Rattle.std.proofs.lemmas.Int.{ints}
-use Rattle.exact_num.specs.Rational.{Rational, whole}
-use Rattle.exact_num.proofs.Integers.{*ℤ_nonnegative}
-use Rattle.exact_num.proofs.Ring.{ring, *ℤ_assoc, *ℤ-one, +ℤ-zero}
-use Rattle.model_sets.specs.Data.{Data}
-use Rattle.row_core.specs.declared.Index.{Index}
-use Rattle.row_core.specs.declared.Row.{Row}
-use Rattle.row_core.specs.declared.RowName.{RowName}
-use Rattle.row_core.specs.declared.Var.{Var}
-use Rattle.row_core.specs.declared.kind_numbers.TheConstants.{PRODUCTION}
-use Rattle.row_core.specs.Kinds.{kind_is_free}
-use Rattle.row_core.specs.Numbers.{ascends}
-use Rattle.row_core.specs.Order.{row_name_cmp}
-use Rattle.row_core.specs.Plans.{value_in}
-use Rattle.row_core.specs.Rows.{number_at, row_sum}
-use Rattle.row_core.specs.Statements.{Holds, Stands}
 use Rattle.row_core.specs.Subscripts as place
-use Rattle.row_core.specs.Values.{IsOver}
 use Rattle.row_core.proofs.MeaningLaws.{row_sum-alone}
 use Rattle.row_core.proofs.SumLaws.{IsOver-times}
 use Rattle.row_core.proofs.PlanLaws.{holds-scaled, row_sum-scaled}
-use Rattle.certificate_checker.specs.Certificates.{AreMultipliersOver, Proves, bound_of}
-use Rattle.certificate_checker.specs.Costs.{cost_of, model_cost}
 use Rattle.certificate_checker.specs.Plans.{AllStand, HaveRightSigns, IsRight}
 use Rattle.certificate_checker.specs.Sums.{HasVariablesOf, weighted}
 use Rattle.certificate_checker.proofs.DualityLaws.{weak_duality, weighted-right}
-use Rattle.named_equations.specs.Existence.{all_variables, exists}
-use Rattle.named_equations.specs.Indices.{at_rlfy}
-use Rattle.named_equations.specs.Instances.{instances, is_instance}
-use Rattle.named_equations.specs.Notation.{scale_of, sum_over}
-use Rattle.named_equations.specs.Parameters.{trade_route}
-use Rattle.named_equations.specs.Plans.{Meets, cost}
-use Rattle.named_equations.specs.Positions.{all_years, regions}
 use Rattle.named_equations.specs.RowMeaning.{IsNamedRow}
-use Rattle.named_equations.specs.Variables.{demand, production, total_discounted_cost, trade, use_of_fuel, variable}
 use Rattle.named_equations.proofs.InstanceOrder.{instances-ascend, variables-ascend}
-use Rattle.row_core.proofs.Members.{Contains-from_Has, Has, Has-from_Contains, Has-map}
-use Rattle.named_equations.proofs.InstanceTests.{Contains-variables, Has-instances, Has-variables}
-use Rattle.named_equations.proofs.TermMeaning.{alone-self, sum_over-same, sum_over-times}
-use Rattle.plan_quantities.specs.RowPrices.{FeasibleWithLess, IsRowPromised, row_price_over}
-use Rattle.price_tables.specs.PriceAmounts.{row_price}
-use Rattle.plan_quantities.specs.Prices.{FeasibleWithMore, IsPromised, balance_at, price_of, price_over, production_entry, says_more}
 use Rattle.plan_costs.proofs.ModelCost.{cost-of_all}
-use Rattle.certificate_checker.proofs.NamedSums.{at_name, fractions, name-itself, same-name, weighted-one, weighted-plus}
 use Rattle.plan_quantities.proofs.MovedRows.{Stands-moved, moved, row_sum-moved}
-use Rattle.row_book.proofs.Subscripts.{index-tidied, values-from_index}
 use Rattle.row_core.specs.RowLists.{entry_variables, names_of}
-use Rattle.row_book.specs.Books.{AreRowsOf}
 use Rattle.row_book.specs.EquationRows.{terms_at}
 use Rattle.row_book.proofs.Instances.{instance-parts}
 use Rattle.row_book.proofs.Lists.{all-has}

@@ -1,22 +1,6 @@
 -- What holds of each row and whichever variable holds of the rows that a table shows. So each price is promised.
 use Rattle.std.proofs.Common.{◌≡◌, ℕ, suc, ◌<◌, ℤ, pos, Bool, true, false, List, [], ◌∷◌, ◌++◌, length, Contains, slice_index_or, Option, None, Some, refl, arith, if◌then◌else◌}
-use Rattle.std.specs.List.{AllByRecursion}
-use Rattle.exact_num.specs.Rational.{Rational}
-use Rattle.model_sets.specs.Data.{Data}
-use Rattle.row_core.specs.declared.Row.{Row}
-use Rattle.row_core.specs.declared.RowName.{RowName}
-use Rattle.row_core.specs.declared.Var.{Var}
-use Rattle.row_core.specs.Numbers.{is_zero}
-use Rattle.row_core.specs.Order.{row_name_cmp}
-use Rattle.row_core.specs.Plans.{value_in}
-use Rattle.row_core.specs.Values.{IsOver}
-use Rattle.named_equations.specs.Existence.{all_variables}
-use Rattle.named_equations.specs.Instances.{instances}
-use Rattle.row_book.specs.Books.{AreRowsOf}
-use Rattle.certificate_checker.specs.Certificates.{AreMultipliersOver, Proves, bound_of}
-use Rattle.certificate_checker.specs.Costs.{model_cost}
-use Rattle.plan_quantities.specs.RowPrices.{IsRowPromised}
-use Rattle.price_tables.specs.PriceAmounts.{row_price}
+use Rattle.plan_quantities.proofs.Common.{AllByRecursion, Rational, Data, Row, RowName, Var, is_zero, row_name_cmp, value_in, IsOver, all_variables, instances, AreRowsOf, AreMultipliersOver, Proves, bound_of, model_cost, IsRowPromised, row_price}
 use Rattle.plan_quantities.proofs.PriceLaws.{row-promise-holds}
 use Rattle.price_tables.specs.declared.shown.PriceTable.{PriceTable}
 use Rattle.price_tables.specs.PricedRows.{priced_kind, priced_rows, priced_variable, with_variable}

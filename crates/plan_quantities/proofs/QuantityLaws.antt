@@ -1,25 +1,10 @@
 -- Each quantity of a feasible plan is its defining sum, and where its variable doesn't exist the sum is 0.
-use Rattle.std.proofs.Common.{◌≡◌, ℕ, ℤ, pos, ◌*ℤ◌, Bool, true, false, [], ◌∷◌, refl, sym, ap, ◌∙◌, subst, true≢false}
-use Rattle.std.specs.Prelude.{◌&&◌, ◌||◌}
-use Rattle.exact_num.proofs.Ring.{one-*ℤ}
-use Rattle.model_sets.specs.Data.{Data}
+use Rattle.plan_quantities.proofs.Common.{◌≡◌, ℕ, ℤ, pos, ◌*ℤ◌, Bool, true, false, [], ◌∷◌, refl, sym, ap, ◌∙◌, subst, true≢false, ◌&&◌, ◌||◌, one-*ℤ, Data, Index, Var, exists, at_rey, at_rrrfy, at_rtfy, at_rty, at_ry, is_index, input_activity_ratio, output_activity_ratio, Feasible, new_capacity, variable, produces, uses, AreQuantities, IsSum, Quantity, activity_in, In, index-tidied, values-from_index}
 use Rattle.model_sets.specs.Names as sets
-use Rattle.row_core.specs.declared.Index.{Index}
-use Rattle.row_core.specs.declared.Var.{Var}
 use Rattle.row_core.specs.Subscripts as place
-use Rattle.named_equations.specs.Existence.{exists}
-use Rattle.named_equations.specs.Indices.{at_rey, at_rrrfy, at_rtfy, at_rty, at_ry}
-use Rattle.named_equations.specs.Instances.{is_index}
-use Rattle.named_equations.specs.Parameters.{input_activity_ratio, output_activity_ratio}
-use Rattle.named_equations.specs.Plans.{Feasible}
-use Rattle.named_equations.specs.Variables.{new_capacity, variable}
-use Rattle.named_equations.specs.Where.{produces, uses}
 use Rattle.named_equations.proofs.SameValues.{◌also◌}
-use Rattle.plan_quantities.specs.Quantities.{AreQuantities, IsSum, Quantity}
-use Rattle.plan_quantities.specs.Sums.{activity_in}
 use Rattle.plan_quantities.proofs.CostSums.{cost-sum, emission-sum, investment-sum, operation-sum, penalty-sum, salvage-sum}
 use Rattle.plan_quantities.proofs.EnergySums.{activity-sum, capacity-sum, none-sum, production-sum, trade-sum, use-sum}
-use Rattle.row_book.proofs.Subscripts.{In, index-tidied, values-from_index}
 
 or_nothing : (b c : Bool) → (b || false) ≡ c → b ≡ c
 or_nothing true c h = h

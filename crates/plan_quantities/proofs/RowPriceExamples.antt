@@ -1,13 +1,6 @@
 -- What more on the right side of a row costs, in the example with one technology, a demand of 10 and a price of 8: plans that meet the fuel's balance with a unit
 -- less or more of Production, and near misses of its price: 9, the wrong sign, and half of 8, as if the row had 2 at Production and the multiplier alone were the price.
-use Rattle.std.proofs.Common.{ℤ, pos, negsuc, neg_ℤ, arith, refl}
-use Rattle.std.proofs.lemmas.Int.{ints}
-use Rattle.exact_num.specs.Rational.{whole}
-use Rattle.row_core.specs.declared.Var.{Var}
-use Rattle.row_core.specs.declared.kind_numbers.TheConstants.{PRODUCTION}
-use Rattle.named_equations.specs.Variables.{variable}
-use Rattle.plan_quantities.specs.Prices.{CostsAtLeast, balance_at}
-use Rattle.plan_quantities.specs.RowPrices.{FeasibleWithLess, IsRowPromised}
+use Rattle.plan_quantities.proofs.Common.{ℤ, pos, negsuc, neg_ℤ, arith, refl, ints, whole, Var, PRODUCTION, variable, CostsAtLeast, balance_at, FeasibleWithLess, IsRowPromised}
 use Rattle.plan_quantities.proofs.PriceExamples.{eleven_is_feasible, here, making, nine_is_feasible, one_technology}
 use Rattle.plan_quantities.proofs.PriceLaws.{more-less}
 

@@ -1,25 +1,7 @@
 -- Plans over two members of each set that is summed over, under either profile: each of their quantities is its defining sum, and with one value raised it
 -- isn't. The values were worked out by a program of another kind, in exact fractions, from the published statements of the equations, step by step.
-use Rattle.std.proofs.Common.{◌≡◌, ℕ, ◌+◌, ◌*◌, ◌^◌, ℤ, pos, negsuc, ◌+ℤ◌, ◌-ℤ◌, ◌*ℤ◌, Bool, true, false, List, [], ◌∷◌, ◌++◌, map, refl, sym, ap, ◌∙◌, arith, true≢false}
-use Rattle.std.proofs.lemmas.Bool.{and_parts}
-use Rattle.std.proofs.lemmas.Bool.Decides.{Decides-int_eq}
-use Rattle.std.proofs.lemmas.Int.{ints}
-use Rattle.std.specs.List.{AllByRecursion, list_all}
-use Rattle.std.specs.Ordering.{int_eq}
-use Rattle.std.specs.Prelude.{codes, if◌then◌else◌, nat_eq, slice_index_or}
-use Rattle.discount_factors.specs.Factors.{annuity, capital_factor, discounted, half_year_root, operating_factor, recovery_factor, root_from, salvage_fraction}
-use Rattle.model_sets.specs.Data.{Data, Default, Given}
+use Rattle.plan_quantities.proofs.Common.{◌≡◌, ℕ, ◌+◌, ◌*◌, ◌^◌, ℤ, pos, negsuc, ◌+ℤ◌, ◌-ℤ◌, ◌*ℤ◌, Bool, true, false, List, [], ◌∷◌, ◌++◌, map, refl, sym, ap, ◌∙◌, arith, true≢false, and_parts, Decides-int_eq, ints, AllByRecursion, list_all, int_eq, codes, if◌then◌else◌, nat_eq, slice_index_or, annuity, capital_factor, discounted, half_year_root, operating_factor, recovery_factor, root_from, salvage_fraction, Data, Default, Given, CAPITAL_COST, DEPRECIATION_METHOD, DISCOUNT_RATE, DISCOUNT_RATE_IDV, EMISSIONS_PENALTY, EMISSION_ACTIVITY_RATIO, FIXED_COST, INPUT_ACTIVITY_RATIO, OPERATIONAL_LIFE, OUTPUT_ACTIVITY_RATIO, RESIDUAL_CAPACITY, VARIABLE_COST, YEAR_SPLIT, Index, Var, NEW_CAPACITY, RATE_OF_ACTIVITY, TRADE, TRADE_ANNUAL, exists, subscripts_of_kind, at_rrrfy, indices, variable, Has-indices, AreQuantities, AreSums, IsSum, Quantity, quantities}
 use Rattle.model_sets.specs.Members.{SetLists}
-use Rattle.model_sets.specs.declared.param_numbers.TheConstants.{CAPITAL_COST, DEPRECIATION_METHOD, DISCOUNT_RATE, DISCOUNT_RATE_IDV, EMISSIONS_PENALTY, EMISSION_ACTIVITY_RATIO, FIXED_COST, INPUT_ACTIVITY_RATIO, OPERATIONAL_LIFE, OUTPUT_ACTIVITY_RATIO, RESIDUAL_CAPACITY, VARIABLE_COST, YEAR_SPLIT}
-use Rattle.row_core.specs.declared.Index.{Index}
-use Rattle.row_core.specs.declared.Var.{Var}
-use Rattle.row_core.specs.declared.kind_numbers.TheConstants.{NEW_CAPACITY, RATE_OF_ACTIVITY, TRADE, TRADE_ANNUAL}
-use Rattle.named_equations.specs.Existence.{exists, subscripts_of_kind}
-use Rattle.named_equations.specs.Indices.{at_rrrfy}
-use Rattle.named_equations.specs.Instances.{indices}
-use Rattle.named_equations.specs.Variables.{variable}
-use Rattle.named_equations.proofs.InstanceTests.{Has-indices}
-use Rattle.plan_quantities.specs.Quantities.{AreQuantities, AreSums, IsSum, Quantity, quantities}
 use Rattle.plan_quantities.proofs.WholeTests.{all_at}
 
 -- ---- data

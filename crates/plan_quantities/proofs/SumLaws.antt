@@ -1,11 +1,5 @@
 -- Sums over positions: of the same values, with a factor, in either order, and without what is 0.
-use Rattle.std.proofs.Common.{◌≡◌, ℕ, ℤ, pos, ◌+ℤ◌, ◌*ℤ◌, Bool, true, false, List, [], ◌∷◌, filter, refl, sym, ap, ap₂, ◌∙◌, arith}
-use Rattle.std.specs.Prelude.{if◌then◌else◌}
-use Rattle.std.specs.List.{AllByRecursion}
-use Rattle.std.proofs.lemmas.Int.{ints}
-use Rattle.exact_num.proofs.Ring.{+ℤ-*ℤ, zero-*ℤ, zero-+ℤ}
-use Rattle.named_equations.specs.Notation.{sum_over}
-use Rattle.named_equations.proofs.TermMeaning.{sum_over-zero}
+use Rattle.plan_quantities.proofs.Common.{◌≡◌, ℕ, ℤ, pos, ◌+ℤ◌, ◌*ℤ◌, Bool, true, false, List, [], ◌∷◌, filter, refl, sym, ap, ap₂, ◌∙◌, arith, if◌then◌else◌, AllByRecursion, ints, +ℤ-*ℤ, zero-*ℤ, zero-+ℤ, sum_over, sum_over-zero}
 
 -- the values are the same at each of these positions
 pub sum-same : (P : ℕ → Type 0) (is : List ℕ) (f g : ℕ → ℤ) → AllByRecursion P is → ((i : ℕ) → P i → f i ≡ g i) → sum_over is f ≡ sum_over is g

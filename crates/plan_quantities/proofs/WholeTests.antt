@@ -1,8 +1,5 @@
 -- What a test of a whole list says of each in it.
-use Rattle.std.proofs.Common.{◌≡◌, Bool, true, List, [], ◌∷◌, inl, inr, ap, sym, ◌∙◌}
-use Rattle.std.specs.List.{list_all}
-use Rattle.std.proofs.lemmas.Bool.{and_parts}
-use Rattle.row_core.proofs.Members.{Has}
+use Rattle.plan_quantities.proofs.Common.{◌≡◌, Bool, true, List, [], ◌∷◌, inl, inr, ap, sym, ◌∙◌, list_all, and_parts, Has}
 
 -- what passes everywhere passes at each
 pub all_at : {A : Type 0} (test : A → Bool) (xs : List A) (x : A) → list_all test xs ≡ true → Has xs x → test x ≡ true

@@ -1,7 +1,5 @@
 -- What there is and the members of the names that are left are the whole.
-use Rattle.std.proofs.Common.{◌≡◌, ◌++◌, drop, map}
-use Rattle.model_sets.specs.Members.{members}
-use Rattle.compare_page.specs.Members.{named, seen}
+use Rattle.compare_page.proofs.Common.{◌≡◌, ◌++◌, drop, map, members, named, seen}
 use Rattle.compare_page.proofs.lists.push_first.Given as goal
 
 abbrev pub invariant-loop-position : goal.invariant-loop-position

@@ -1,7 +1,5 @@
 -- What there is and the new members of the names that are left are the whole.
-use Rattle.std.proofs.Common.{◌≡◌, ◌++◌, drop, filter, map}
-use Rattle.model_sets.specs.Members.{members}
-use Rattle.compare_page.specs.Members.{is_new, named, seen}
+use Rattle.compare_page.proofs.Common.{◌≡◌, ◌++◌, drop, filter, map, members, is_new, named, seen}
 use Rattle.compare_page.proofs.lists.push_second.Given as goal
 
 abbrev pub invariant-loop-position : goal.invariant-loop-position

@@ -1,10 +1,7 @@
 -- Where there is no member at the place, there is no row.
-use Rattle.std.proofs.Common.{◌≡◌, ℕ, ℤ, List, [], ◌++◌, Option, None, map, sym, ap, ◌∙◌}
-use Rattle.std.specs.Prelude.{slice_get}
-use Rattle.std.proofs.lemmas.List.{append-nil}
+use Rattle.compare_page.proofs.Common.{◌≡◌, ℕ, ℤ, List, [], ◌++◌, Option, None, map, sym, ap, ◌∙◌, slice_get, append-nil, both_of, row_of, shown_row}
 use Rattle.std.proofs.lemmas.Option.{slice_get_past}
 use Rattle.compare_page.specs.declared.members.Member.{Member}
-use Rattle.compare_page.specs.Values.{both_of, row_of, shown_row}
 use Rattle.compare_page.proofs.rows.add_member.Goals as goal
 
 pub returns-in-None : goal.returns-in-None

@@ -1,6 +1,5 @@
 -- The places so far.
-use Rattle.std.proofs.Common.{◌≡◌, map, take}
-use Rattle.compare_page.specs.Values.{both_of, member_rows, shown_row}
+use Rattle.compare_page.proofs.Common.{◌≡◌, map, take, both_of, member_rows, shown_row}
 use Rattle.compare_page.proofs.rows.changing_series.Given as goal
 
 abbrev pub invariant-loop-place : goal.invariant-loop-place

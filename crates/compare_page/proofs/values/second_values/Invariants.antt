@@ -1,6 +1,5 @@
 -- The years so far.
-use Rattle.std.proofs.Common.{◌≡◌, take}
-use Rattle.compare_page.specs.Values.{second_values}
+use Rattle.compare_page.proofs.Common.{◌≡◌, take, second_values}
 use Rattle.compare_page.proofs.values.second_values.Given as goal
 
 abbrev pub invariant-loop-year : goal.invariant-loop-year

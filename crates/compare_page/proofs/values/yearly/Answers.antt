@@ -1,8 +1,5 @@
 -- Year by year.
-use Rattle.std.proofs.Common.{◌≡◌, ℤ, List, [], ◌∷◌, ◌++◌, Option, None, get_or, sym, ap, ◌∙◌}
-use Rattle.std.proofs.lemmas.List.{map_more}
-use Rattle.compare_page.specs.declared.members.Year.{Year}
-use Rattle.compare_page.specs.Values.{both_of, change_in}
+use Rattle.compare_page.proofs.Common.{◌≡◌, ℤ, List, [], ◌∷◌, ◌++◌, Option, None, get_or, sym, ap, ◌∙◌, map_more, Year, both_of, change_in}
 use Rattle.compare_page.proofs.values.yearly.Goals as goal
 
 pub loop-year-preserved : goal.loop-year-preserved

@@ -1,6 +1,5 @@
 -- The years so far.
-use Rattle.std.proofs.Common.{◌≡◌, take}
-use Rattle.compare_page.specs.Values.{both_of, yearly_changes}
+use Rattle.compare_page.proofs.Common.{◌≡◌, take, both_of, yearly_changes}
 use Rattle.compare_page.proofs.values.yearly.Given as goal
 
 abbrev pub invariant-loop-year : goal.invariant-loop-year

@@ -1,8 +1,5 @@
 -- What there is and the years of the names that are left are the whole.
-use Rattle.std.proofs.Common.{◌≡◌, ◌++◌, drop, map}
-use Rattle.model_sets.specs.Members.{members}
-use Rattle.model_sets.specs.Names.{year}
-use Rattle.compare_page.specs.Members.{year_named}
+use Rattle.compare_page.proofs.Common.{◌≡◌, ◌++◌, drop, map, members, year, year_named}
 use Rattle.compare_page.proofs.years.push_first.Given as goal
 
 abbrev pub invariant-loop-position : goal.invariant-loop-position

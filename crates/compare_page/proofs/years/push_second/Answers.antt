@@ -1,10 +1,6 @@
 -- Year by year.
-use Rattle.std.proofs.Common.{ℕ, ◌+◌, List, ◌++◌, [], drop, filter, map, sym, ap, ◌∙◌}
-use Rattle.model_sets.specs.Members.{members}
-use Rattle.model_sets.specs.Names.{year}
+use Rattle.compare_page.proofs.Common.{ℕ, ◌+◌, List, ◌++◌, [], drop, filter, map, sym, ap, ◌∙◌, members, year, Year, is_new, year_named}
 use Rattle.plan_compare.proofs.TextLaws.{kept-joined, made_next}
-use Rattle.compare_page.specs.declared.members.Year.{Year}
-use Rattle.compare_page.specs.Members.{is_new, year_named}
 use Rattle.compare_page.proofs.years.push_second.Goals as goal
 
 pub loop-position-preserved : goal.loop-position-preserved

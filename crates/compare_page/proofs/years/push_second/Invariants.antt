@@ -1,8 +1,5 @@
 -- What there is and the new years of the names that are left are the whole.
-use Rattle.std.proofs.Common.{◌≡◌, ◌++◌, drop, filter, map}
-use Rattle.model_sets.specs.Members.{members}
-use Rattle.model_sets.specs.Names.{year}
-use Rattle.compare_page.specs.Members.{is_new, year_named}
+use Rattle.compare_page.proofs.Common.{◌≡◌, ◌++◌, drop, filter, map, members, year, is_new, year_named}
 use Rattle.compare_page.proofs.years.push_second.Given as goal
 
 abbrev pub invariant-loop-position : goal.invariant-loop-position

@@ -1,7 +1,6 @@
 -- A sort by the number puts the years in the order of their numbers.
-use Rattle.std.proofs.Common.{ℕ, rules}
+use Rattle.compare_page.proofs.Common.{ℕ, rules, Year}
 use Rattle.std.proofs.lemmas.List.Sorted.{IsNonDecreasingBy-from_sort_by_key}
-use Rattle.compare_page.specs.declared.members.Year.{Year}
 use Rattle.compare_page.proofs.years.years_of.Goals as goal
 
 abbrev number_of : Year → ℕ

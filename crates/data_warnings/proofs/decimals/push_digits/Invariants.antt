@@ -1,6 +1,5 @@
 -- The digits that are left end the text.
-use Rattle.std.proofs.Common.{◌≡◌, ◌<◌, ◌-◌, ◌++◌}
-use Rattle.data_warnings.specs.Decimals.{billion, part_digits}
+use Rattle.data_warnings.proofs.Common.{◌≡◌, ◌<◌, ◌-◌, ◌++◌, billion, part_digits}
 use Rattle.data_warnings.proofs.decimals.push_digits.Given as goal
 
 abbrev pub invariant-loop-place : goal.invariant-loop-place

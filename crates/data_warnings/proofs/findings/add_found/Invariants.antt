@@ -1,9 +1,5 @@
 -- What is found so far.
-use Rattle.std.proofs.Common.{◌≡◌, ◌++◌}
-use Rattle.std.specs.List.{flat_map, range_with_len}
-use Rattle.data_warnings.specs.Findings.{found_of_one}
-use Rattle.data_warnings.specs.Frames.{frame_of}
-use Rattle.data_warnings.specs.Values.{count}
+use Rattle.data_warnings.proofs.Common.{◌≡◌, ◌++◌, flat_map, range_with_len, found_of_one, frame_of, count}
 use Rattle.data_warnings.proofs.findings.add_found.Given as goal
 
 abbrev pub invariant-loop-i : goal.invariant-loop-i

@@ -1,9 +1,5 @@
 -- The first of the members is one with which the rule speaks.
-use Rattle.std.proofs.Common.{ℕ, ap, sym, ◌∙◌, subst, arith}
-use Rattle.data_warnings.specs.Findings.{place_at}
-use Rattle.data_warnings.specs.Frames.{frame_of}
-use Rattle.data_warnings.specs.Speaking.{speaks}
-use Rattle.data_warnings.specs.Values.{IsPlace, count}
+use Rattle.data_warnings.proofs.Common.{ℕ, ap, sym, ◌∙◌, subst, arith, place_at, frame_of, speaks, IsPlace, count}
 use Rattle.data_warnings.proofs.FirstLaws.{IsFirst, first_kept}
 use Rattle.data_warnings.proofs.findings.add_found_at.Goals as goal
 

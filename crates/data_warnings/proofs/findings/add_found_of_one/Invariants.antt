@@ -1,9 +1,5 @@
 -- What is found so far.
-use Rattle.std.proofs.Common.{◌≡◌, ◌++◌}
-use Rattle.std.specs.List.{flat_map, range_with_len}
-use Rattle.data_warnings.specs.Findings.{found_of_two}
-use Rattle.data_warnings.specs.Frames.{frame_of}
-use Rattle.data_warnings.specs.Values.{count}
+use Rattle.data_warnings.proofs.Common.{◌≡◌, ◌++◌, flat_map, range_with_len, found_of_two, frame_of, count}
 use Rattle.data_warnings.proofs.findings.add_found_of_one.Given as goal
 
 abbrev pub invariant-loop-j : goal.invariant-loop-j

@@ -1,7 +1,5 @@
 -- What the rules so far find.
-use Rattle.std.proofs.Common.{◌≡◌, take}
-use Rattle.std.specs.List.{flat_map}
-use Rattle.data_warnings.specs.Findings.{found}
+use Rattle.data_warnings.proofs.Common.{◌≡◌, take, flat_map, found}
 use Rattle.data_warnings.proofs.findings.findings.Given as goal
 
 abbrev pub invariant-loop-rule : goal.invariant-loop-rule

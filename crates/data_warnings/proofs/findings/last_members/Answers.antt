@@ -1,8 +1,6 @@
 -- Member by member.
-use Rattle.std.proofs.Common.{ℕ, sym, ap, ◌∙◌}
+use Rattle.data_warnings.proofs.Common.{ℕ, sym, ap, ◌∙◌, place_at, speaks}
 use Rattle.param_tables.proofs.AscendingLaws.{range_kept, range_left}
-use Rattle.data_warnings.specs.Findings.{place_at}
-use Rattle.data_warnings.specs.Speaking.{speaks}
 use Rattle.data_warnings.proofs.findings.last_members.Goals as goal
 use Rattle.data_warnings.proofs.findings.last_members.Goals.{then-so+in_ok-push, else-so}
 

@@ -1,19 +1,5 @@
 -- By the rule of the finding.
-use Rattle.std.proofs.Common.{◌≡◌, ℕ, ℤ, true}
-use Rattle.std.specs.Prelude.{Contains}
-use Rattle.named_equations.specs.Plans.{Feasible}
-use Rattle.param_tables.specs.Built.{Built}
-use Rattle.row_core.specs.declared.Var.{Var}
-use Rattle.row_core.proofs.Members.{Has-from_Contains}
-use Rattle.data_warnings.specs.declared.places.Finding.{Finding}
-use Rattle.data_warnings.specs.declared.places.Place.{Place}
-use Rattle.data_warnings.specs.declared.rules.Rule.{Rule}
-use Rattle.data_warnings.specs.declared.rules.Rule.TheVariants.{YearSplitSum, YearGap, DiscountRate, UnprofiledDemand, ProfileSum, UnmadeDemand, StarvedTechnology, Disabled, Crossed, CrossedPeriod, Unreachable, ShortLives, LargeFactor, LargeAvailability, LargeTarget, SmallMargin, NegativeCost, Outlier, OneWayRoute, ZeroLimits, ZeroEmissions, HighLimits, IdleLimit, UnusedFuel, IdleTechnology, Rounded}
-use Rattle.data_warnings.specs.Findings.{findings}
-use Rattle.data_warnings.specs.Frames.{frame_of}
-use Rattle.data_warnings.specs.NoPlan.{excludes_plans}
-use Rattle.data_warnings.specs.Speaking.{speaks}
-use Rattle.data_warnings.specs.Values.{IsPlace}
+use Rattle.data_warnings.proofs.Common.{◌≡◌, ℕ, ℤ, true, Contains, Feasible, Built, Var, Has-from_Contains, Finding, Place, Rule, YearSplitSum, YearGap, DiscountRate, UnprofiledDemand, ProfileSum, UnmadeDemand, StarvedTechnology, Disabled, Crossed, CrossedPeriod, Unreachable, ShortLives, LargeFactor, LargeAvailability, LargeTarget, SmallMargin, NegativeCost, Outlier, OneWayRoute, ZeroLimits, ZeroEmissions, HighLimits, IdleLimit, UnusedFuel, IdleTechnology, Rounded, findings, frame_of, excludes_plans, speaks, IsPlace}
 use Rattle.model_sets.specs.Names as sets
 use Rattle.data_warnings.proofs.CrossedLimits.{not_crossed, not_crossed_period}
 use Rattle.data_warnings.proofs.FoundPlaces.{is_found}

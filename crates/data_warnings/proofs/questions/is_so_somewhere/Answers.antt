@@ -1,8 +1,5 @@
 -- One member after another.
-use Rattle.std.proofs.Common.{ℕ, ◌<◌, ◌≤◌, Bool, sym, ap, ◌∙◌, subst}
-use Rattle.named_equations.proofs.SomePosition.{any-begin, any-here, any-later, any-end}
-use Rattle.data_warnings.specs.Questions.{is_so, over}
-use Rattle.data_warnings.specs.Values.{count}
+use Rattle.data_warnings.proofs.Common.{ℕ, ◌<◌, ◌≤◌, Bool, sym, ap, ◌∙◌, subst, any-begin, any-here, any-later, any-end, is_so, over, count}
 use Rattle.data_warnings.proofs.questions.is_so_somewhere.Goals as goal
 
 pub loop-i-init : goal.loop-i-init

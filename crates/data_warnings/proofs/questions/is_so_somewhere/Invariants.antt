@@ -1,8 +1,5 @@
 -- Whether it is so of some member is decided by those from here on.
-use Rattle.std.proofs.Common.{◌≡◌}
-use Rattle.named_equations.proofs.SomePosition.{any_from}
-use Rattle.data_warnings.specs.Questions.{is_so, is_so_somewhere, over}
-use Rattle.data_warnings.specs.Values.{count}
+use Rattle.data_warnings.proofs.Common.{◌≡◌, any_from, is_so, is_so_somewhere, over, count}
 use Rattle.data_warnings.proofs.questions.is_so_somewhere.Given as goal
 
 abbrev pub invariant-loop-i : goal.invariant-loop-i

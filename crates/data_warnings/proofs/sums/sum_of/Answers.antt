@@ -1,14 +1,5 @@
 -- Timeslice by timeslice.
-use Rattle.std.proofs.Common.{◌≡◌, ℕ, ◌+◌, ◌*◌, ◌^◌, ◌<◌, ◌≤◌, ℤ, ◌+ℤ◌, sym, ap, ◌∙◌, subst, to_z, of_z, arith}
-use Rattle.std.specs.Int.{w128}
-use Rattle.std.specs.Prelude.{unsigned_abs}
-use Rattle.std.proofs.lemmas.Int.{ints}
-use Rattle.exact_num.specs.Range.{InRange}
-use Rattle.exact_num.proofs.RangeLaws.{back_in_range}
-use Rattle.mathprog_data.specs.WellFormed.{IsWithinLimit}
-use Rattle.model_sets.specs.Names.{timeslice}
-use Rattle.data_warnings.specs.Sums.{part, sum_of}
-use Rattle.data_warnings.specs.Values.{count}
+use Rattle.data_warnings.proofs.Common.{◌≡◌, ℕ, ◌+◌, ◌*◌, ◌^◌, ◌<◌, ◌≤◌, ℤ, ◌+ℤ◌, sym, ap, ◌∙◌, subst, to_z, of_z, arith, w128, unsigned_abs, ints, InRange, back_in_range, IsWithinLimit, timeslice, part, sum_of, count}
 use Rattle.data_warnings.proofs.Billionths.{in_range}
 use Rattle.data_warnings.proofs.SumLaws.{sum_from, sum-next}
 use Rattle.data_warnings.proofs.sums.sum_of.Goals as goal

@@ -1,9 +1,5 @@
 -- The sum so far, and what is left.
-use Rattle.std.proofs.Common.{◌≡◌, ◌≤◌, ◌*◌, ◌^◌, ◌+ℤ◌}
-use Rattle.std.specs.Prelude.{unsigned_abs}
-use Rattle.model_sets.specs.Names.{timeslice}
-use Rattle.data_warnings.specs.Sums.{part, sum_of}
-use Rattle.data_warnings.specs.Values.{count}
+use Rattle.data_warnings.proofs.Common.{◌≡◌, ◌≤◌, ◌*◌, ◌^◌, ◌+ℤ◌, unsigned_abs, timeslice, part, sum_of, count}
 use Rattle.data_warnings.proofs.SumLaws.{sum_from}
 use Rattle.data_warnings.proofs.sums.sum_of.Given as goal
 

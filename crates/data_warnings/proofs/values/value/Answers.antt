@@ -1,10 +1,5 @@
 -- The numerator times what the denominator lacks to a billion is the number of billionths.
-use Rattle.std.proofs.Common.{ℤ, pos, Option, ap, ◌∙◌, sym, subst, FitsSigned, to_z, of_z}
-use Rattle.std.specs.Int.{w128}
-use Rattle.std.specs.Prelude.{unwrap_or}
-use Rattle.exact_num.proofs.RangeLaws.{FitsSigned-from_InRange}
-use Rattle.mathprog_data.specs.WellFormed.{IsWithinLimit}
-use Rattle.model_sets.specs.Data.{value_at}
+use Rattle.data_warnings.proofs.Common.{ℤ, pos, Option, ap, ◌∙◌, sym, subst, FitsSigned, to_z, of_z, w128, unwrap_or, FitsSigned-from_InRange, IsWithinLimit, value_at}
 use Rattle.model_sets.specs.Params.{range_of}
 use Rattle.param_tables.specs.Positions.{names_at}
 use Rattle.data_warnings.proofs.Billionths.{in_range, value-back, value-computed, value-of_given}

@@ -1,10 +1,5 @@
 -- One member after another.
-use Rattle.std.proofs.Common.{ℕ, ◌<◌, ◌≤◌, Bool, sym, ◌∙◌, subst}
-use Rattle.named_equations.proofs.SomePosition.{any-begin, any-here, any-later, any-end}
-use Rattle.model_sets.specs.Names.{region}
-use Rattle.data_warnings.specs.declared.wide.Wide.TheVariants.{MakesOrTakes}
-use Rattle.data_warnings.specs.Wide.{is_so_of_some}
-use Rattle.data_warnings.specs.Values.{count}
+use Rattle.data_warnings.proofs.Common.{ℕ, ◌<◌, ◌≤◌, Bool, sym, ◌∙◌, subst, any-begin, any-here, any-later, any-end, region, MakesOrTakes, is_so_of_some, count}
 use Rattle.data_warnings.proofs.wide.is_used.Goals as goal
 
 pub loop-r-init : goal.loop-r-init

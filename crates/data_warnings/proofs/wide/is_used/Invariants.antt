@@ -1,10 +1,5 @@
 -- Whether it is so of some member is decided by those from here on.
-use Rattle.std.proofs.Common.{◌≡◌}
-use Rattle.named_equations.proofs.SomePosition.{any_from}
-use Rattle.model_sets.specs.Names.{region}
-use Rattle.data_warnings.specs.declared.wide.Wide.TheVariants.{MakesOrTakes}
-use Rattle.data_warnings.specs.Wide.{is_so_of_some, is_used}
-use Rattle.data_warnings.specs.Values.{count}
+use Rattle.data_warnings.proofs.Common.{◌≡◌, any_from, region, MakesOrTakes, is_so_of_some, is_used, count}
 use Rattle.data_warnings.proofs.wide.is_used.Given as goal
 
 abbrev pub invariant-loop-r : goal.invariant-loop-r

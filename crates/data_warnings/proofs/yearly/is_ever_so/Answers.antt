@@ -1,9 +1,5 @@
 -- One member after another.
-use Rattle.std.proofs.Common.{ℕ, ◌<◌, ◌≤◌, Bool, sym, ◌∙◌, subst}
-use Rattle.named_equations.proofs.SomePosition.{any-begin, any-here, any-later, any-end}
-use Rattle.model_sets.specs.Names.{year}
-use Rattle.data_warnings.specs.Yearly.{is_so_in}
-use Rattle.data_warnings.specs.Values.{count}
+use Rattle.data_warnings.proofs.Common.{ℕ, ◌<◌, ◌≤◌, Bool, sym, ◌∙◌, subst, any-begin, any-here, any-later, any-end, year, is_so_in, count}
 use Rattle.data_warnings.proofs.yearly.is_ever_so.Goals as goal
 
 pub loop-y-init : goal.loop-y-init

@@ -1,9 +1,5 @@
 -- Whether it is so of some member is decided by those from here on.
-use Rattle.std.proofs.Common.{◌≡◌}
-use Rattle.named_equations.proofs.SomePosition.{any_from}
-use Rattle.model_sets.specs.Names.{year}
-use Rattle.data_warnings.specs.Yearly.{is_ever_so, is_so_in}
-use Rattle.data_warnings.specs.Values.{count}
+use Rattle.data_warnings.proofs.Common.{◌≡◌, any_from, year, is_ever_so, is_so_in, count}
 use Rattle.data_warnings.proofs.yearly.is_ever_so.Given as goal
 
 abbrev pub invariant-loop-y : goal.invariant-loop-y

@@ -1,16 +1,6 @@
 -- A number that fits is printed over a million.
-use Rattle.std.proofs.Common.{◌≡◌, ◌++◌, ℤ, ap, sym, subst, ◌∙◌, to_z, of_z}
-use Rattle.std.specs.Prelude.{IsTrue, ◌↔◌}
-use Rattle.std.specs.Int.{w128}
-use Rattle.std.proofs.lemmas.Int.{to_z-of_z}
-use Rattle.std.proofs.lemmas.Result.{on_ok_weaker}
-use Rattle.exact_num.specs.Range.{InRange}
-use Rattle.exact_num.specs.Rational.{lowest}
-use Rattle.exact_num.specs.Value.{value_of}
-use Rattle.exact_num.proofs.RangeLaws.{in_range-yes}
-use Rattle.scaled_decimals.specs.PrintedPlaces.{millionths_text, places_text}
+use Rattle.plan_compare.proofs.Common.{◌≡◌, ◌++◌, ℤ, ap, sym, subst, ◌∙◌, to_z, of_z, IsTrue, ◌↔◌, w128, to_z-of_z, on_ok_weaker, InRange, lowest, value_of, in_range-yes, millionths_text, places_text, million}
 use Rattle.scaled_decimals.proofs.PrintedTexts.{OnOk-appended}
-use Rattle.value_millionths.proofs.OutwardLaws.{million}
 use Rattle.plan_compare.proofs.PrintedLaws.{fits-from, fits-not, fits-signed, fitting-text, printed-back, wide-text}
 use Rattle.plan_compare.proofs.amounts.push_fitting_or.Goals as goal
 

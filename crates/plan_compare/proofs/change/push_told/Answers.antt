@@ -1,12 +1,5 @@
 -- Entry by entry.
-use Rattle.std.proofs.Common.{◌≡◌, ◌+◌, Bool, true, false, List, ◌++◌, ◌∷◌, [], drop, filter, map, refl, ap, sym, ◌∙◌}
-use Rattle.std.proofs.lemmas.List.{append-nil, at_drop_all}
-use Rattle.exact_num.specs.Rational.{Rational}
-use Rattle.exact_num.specs.Value.{value_of}
-use Rattle.exact_num.specs.declared.fraction.Frac.{Frac}
-use Rattle.row_core.specs.declared.Var.{Var}
-use Rattle.plan_compare.specs.Changes.{listed, told_where}
-use Rattle.plan_compare.specs.declared.change.Change.{Change}
+use Rattle.plan_compare.proofs.Common.{◌≡◌, ◌+◌, Bool, true, false, List, ◌++◌, ◌∷◌, [], drop, filter, map, refl, ap, sym, ◌∙◌, append-nil, at_drop_all, Rational, value_of, Frac, Var, listed, told_where, Change}
 use Rattle.plan_compare.proofs.TextLaws.{made_next, of_entries, of_entries-joined}
 use Rattle.plan_compare.proofs.change.push_told.Goals as goal
 

@@ -1,11 +1,5 @@
 -- What there is and what is told of the entries that are left are the whole.
-use Rattle.std.proofs.Common.{◌≡◌, ◌++◌, Bool, Option, drop}
-use Rattle.exact_num.specs.Rational.{Rational}
-use Rattle.exact_num.specs.Value.{value_of}
-use Rattle.exact_num.specs.declared.fraction.Frac.{Frac}
-use Rattle.row_core.specs.declared.Var.{Var}
-use Rattle.plan_compare.specs.Changes.{told_where}
-use Rattle.plan_compare.specs.declared.change.Change.{Change}
+use Rattle.plan_compare.proofs.Common.{◌≡◌, ◌++◌, Bool, Option, drop, Rational, value_of, Frac, Var, told_where, Change}
 use Rattle.plan_compare.proofs.TextLaws.{of_entries}
 use Rattle.plan_compare.proofs.change.push_told.Given as goal
 

@@ -1,9 +1,6 @@
 -- Those of the first plan, and then those of the second.
-use Rattle.std.proofs.Common.{List, ◌++◌, filter, map, ap, ◌∙◌, rules}
+use Rattle.plan_compare.proofs.Common.{List, ◌++◌, filter, map, ap, ◌∙◌, rules, change_of_first, change_of_second, is_new, Side, side_of, Change}
 use Rattle.plan_tables.specs.ValueTables.{is_shown}
-use Rattle.plan_compare.specs.Changes.{change_of_first, change_of_second, is_new}
-use Rattle.plan_compare.specs.Scenarios.{Side, side_of}
-use Rattle.plan_compare.specs.declared.change.Change.{Change}
 use Rattle.plan_compare.proofs.changes.changes_of.Goals as goal
 
 pub returns : goal.returns

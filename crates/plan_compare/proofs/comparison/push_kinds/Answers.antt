@@ -1,9 +1,5 @@
 -- Kind by kind.
-use Rattle.std.proofs.Common.{ℕ, ◌+◌, List, ◌++◌, drop, sym, ap, ◌∙◌}
-use Rattle.std.proofs.lemmas.List.{append-nil}
-use Rattle.std.specs.List.{flat_map}
-use Rattle.plan_compare.specs.Comparisons.{compared_kinds, kind_text}
-use Rattle.plan_compare.specs.Scenarios.{side_of}
+use Rattle.plan_compare.proofs.Common.{ℕ, ◌+◌, List, ◌++◌, drop, sym, ap, ◌∙◌, append-nil, flat_map, compared_kinds, kind_text, side_of}
 use Rattle.plan_compare.proofs.TextLaws.{flat-joined, made_next}
 use Rattle.plan_compare.proofs.comparison.push_kinds.Goals as goal
 

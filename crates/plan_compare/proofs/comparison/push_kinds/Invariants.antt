@@ -1,8 +1,5 @@
 -- What is written and the tables of the kinds that are left are the whole.
-use Rattle.std.proofs.Common.{◌≡◌, ◌++◌, drop}
-use Rattle.std.specs.List.{flat_map}
-use Rattle.plan_compare.specs.Comparisons.{kind_text}
-use Rattle.plan_compare.specs.Scenarios.{side_of}
+use Rattle.plan_compare.proofs.Common.{◌≡◌, ◌++◌, drop, flat_map, kind_text, side_of}
 use Rattle.plan_compare.proofs.comparison.push_kinds.Given as goal
 
 abbrev pub invariant-loop-kind : goal.invariant-loop-kind

@@ -1,8 +1,5 @@
 -- One after the other.
-use Rattle.std.proofs.Common.{List, ℕ, ◌++◌, ap, ◌∙◌, append_assoc}
-use Rattle.std.specs.Prelude.{codes}
-use Rattle.std.proofs.lemmas.Result.{on_ok_weaker}
-use Rattle.plan_compare.specs.Comparisons.{only_text}
+use Rattle.plan_compare.proofs.Common.{List, ℕ, ◌++◌, ap, ◌∙◌, append_assoc, codes, on_ok_weaker, only_text}
 use Rattle.plan_compare.proofs.members.push_members.Goals as goal
 
 pub returns : goal.returns

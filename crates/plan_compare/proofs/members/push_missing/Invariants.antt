@@ -1,8 +1,5 @@
 -- What is written and the records of the members that are left are the whole.
-use Rattle.std.proofs.Common.{◌≡◌, ◌++◌, drop}
-use Rattle.model_sets.specs.Members.{members}
-use Rattle.plan_files.specs.Texts.{records_text}
-use Rattle.plan_compare.specs.Members.{member_records, missing_records}
+use Rattle.plan_compare.proofs.Common.{◌≡◌, ◌++◌, drop, members, records_text, member_records, missing_records}
 use Rattle.plan_compare.proofs.members.push_missing.Given as goal
 
 abbrev pub invariant-loop-position : goal.invariant-loop-position

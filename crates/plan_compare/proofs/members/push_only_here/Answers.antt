@@ -1,9 +1,5 @@
 -- Set by set.
-use Rattle.std.proofs.Common.{ℕ, ◌+◌, List, ◌++◌, drop, get_or, sym, ap, ◌∙◌}
-use Rattle.std.proofs.lemmas.List.{append-nil}
-use Rattle.plan_files.specs.Files.{Fields}
-use Rattle.plan_files.specs.Texts.{records_text}
-use Rattle.plan_compare.specs.Members.{compared_sets, member_records}
+use Rattle.plan_compare.proofs.Common.{ℕ, ◌+◌, List, ◌++◌, drop, get_or, sym, ap, ◌∙◌, append-nil, Fields, records_text, compared_sets, member_records}
 use Rattle.plan_compare.proofs.TextLaws.{made_next, text_of_each, text_of_each-joined}
 use Rattle.plan_compare.proofs.members.push_only_here.Goals as goal
 

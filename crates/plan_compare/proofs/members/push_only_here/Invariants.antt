@@ -1,6 +1,5 @@
 -- What is written and the records of the sets that are left are the whole.
-use Rattle.std.proofs.Common.{◌≡◌, ◌++◌, drop}
-use Rattle.plan_compare.specs.Members.{member_records}
+use Rattle.plan_compare.proofs.Common.{◌≡◌, ◌++◌, drop, member_records}
 use Rattle.plan_compare.proofs.TextLaws.{text_of_each}
 use Rattle.plan_compare.proofs.members.push_only_here.Given as goal
 

@@ -1,7 +1,5 @@
 -- What is written and the records of the changes that are left are the whole.
-use Rattle.std.proofs.Common.{◌≡◌, ◌++◌, drop}
-use Rattle.plan_compare.specs.Comparisons.{change_record}
-use Rattle.plan_compare.specs.Scenarios.{side_of}
+use Rattle.plan_compare.proofs.Common.{◌≡◌, ◌++◌, drop, change_record, side_of}
 use Rattle.plan_compare.proofs.TextLaws.{text_of}
 use Rattle.plan_compare.proofs.records.push_changes.Given as goal
 

@@ -1,9 +1,5 @@
 -- Place by place.
-use Rattle.std.proofs.Common.{ℕ, ◌+◌, List, ◌++◌, ◌∷◌, [], map, filter, sym, ap, ◌∙◌, append_assoc, arith}
-use Rattle.csv.specs.Records.{fields_of}
-use Rattle.plan_files.specs.Files.{Fields}
-use Rattle.row_core.specs.NameTexts.{member}
-use Rattle.plan_compare.specs.Counterparts.{counts}
+use Rattle.plan_compare.proofs.Common.{ℕ, ◌+◌, List, ◌++◌, ◌∷◌, [], map, filter, sym, ap, ◌∙◌, append_assoc, arith, fields_of, Fields, member, counts}
 use Rattle.plan_compare.proofs.TextLaws.{kept-joined}
 use Rattle.plan_compare.proofs.RangeLaws.{from_to, range_next}
 use Rattle.plan_compare.proofs.records.push_members.Goals as goal

@@ -1,10 +1,6 @@
 -- The members so far and those that are left are all.
-use Rattle.std.proofs.Common.{◌≡◌, ◌++◌, ◌-◌, [], map, filter}
-use Rattle.std.specs.List.{range_with_len}
-use Rattle.csv.specs.Records.{fields_of, partial_of}
+use Rattle.plan_compare.proofs.Common.{◌≡◌, ◌++◌, ◌-◌, [], map, filter, range_with_len, fields_of, partial_of, member, counts}
 use Rattle.plan_files.specs.Records.{places}
-use Rattle.row_core.specs.NameTexts.{member}
-use Rattle.plan_compare.specs.Counterparts.{counts}
 use Rattle.plan_compare.proofs.records.push_members.Given as goal
 
 abbrev pub invariant-loop-place : goal.invariant-loop-place

@@ -1,6 +1,5 @@
 -- How many of those so far don't differ: no more than there are.
-use Rattle.std.proofs.Common.{◌≡◌, ◌≤◌, take}
-use Rattle.plan_compare.specs.Comparisons.{same_count}
+use Rattle.plan_compare.proofs.Common.{◌≡◌, ◌≤◌, take, same_count}
 use Rattle.plan_compare.proofs.sections.same_count.Given as goal
 
 abbrev pub invariant-loop-change : goal.invariant-loop-change

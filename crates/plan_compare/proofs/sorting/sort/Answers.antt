@@ -1,10 +1,7 @@
 -- A stable sort by the rank is the order of the greatest first.
-use Rattle.std.proofs.Common.{ℕ, ◌^◌, rules}
+use Rattle.plan_compare.proofs.Common.{ℕ, ◌^◌, rules, on_ok_weaker, Change, size_of_change}
 use Rattle.std.proofs.lemmas.Fn.{always_returns_same}
 use Rattle.std.proofs.lemmas.List.Sorted.{IsNonDecreasingBy-from_sort_by_key}
-use Rattle.std.proofs.lemmas.Result.{on_ok_weaker}
-use Rattle.plan_compare.specs.declared.change.Change.{Change}
-use Rattle.plan_compare.specs.GreatestFirst.{size_of_change}
 use Rattle.plan_compare.proofs.GreatestFirstLaws.{rank, sorted_is}
 use Rattle.plan_compare.proofs.SizeLaws.{small}
 use Rattle.plan_compare.proofs.sorting.sort.Goals as goal

@@ -1,7 +1,5 @@
 -- Year by year.
-use Rattle.std.proofs.Common.{sym, ◌∙◌}
-use Rattle.plan_compare.specs.Scenarios.{side_of}
-use Rattle.plan_compare.specs.Sums.{differs_in}
+use Rattle.plan_compare.proofs.Common.{sym, ◌∙◌, side_of, differs_in}
 use Rattle.plan_compare.proofs.RangeLaws.{any_here, any_next}
 use Rattle.plan_compare.proofs.sums.differs_before.Goals as goal
 

@@ -1,8 +1,5 @@
 -- Whether one of the years differs is whether one of those that are left does.
-use Rattle.std.proofs.Common.{◌≡◌, ◌-◌}
-use Rattle.std.specs.List.{list_any, range_with_len}
-use Rattle.plan_compare.specs.Scenarios.{side_of}
-use Rattle.plan_compare.specs.Sums.{differs_in}
+use Rattle.plan_compare.proofs.Common.{◌≡◌, ◌-◌, list_any, range_with_len, side_of, differs_in}
 use Rattle.plan_compare.proofs.sums.differs_before.Given as goal
 
 abbrev pub invariant-loop-year : goal.invariant-loop-year

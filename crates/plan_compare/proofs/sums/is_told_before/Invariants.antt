@@ -1,8 +1,5 @@
 -- Whether one of the years has such a value is whether one of those that are left has.
-use Rattle.std.proofs.Common.{◌≡◌, ◌-◌}
-use Rattle.std.specs.List.{list_any, range_with_len}
-use Rattle.plan_compare.specs.Scenarios.{side_of}
-use Rattle.plan_compare.specs.Sums.{is_told_in}
+use Rattle.plan_compare.proofs.Common.{◌≡◌, ◌-◌, list_any, range_with_len, side_of, is_told_in}
 use Rattle.plan_compare.proofs.sums.is_told_before.Given as goal
 
 abbrev pub invariant-loop-year : goal.invariant-loop-year

@@ -1,10 +1,5 @@
 -- Year by year.
-use Rattle.std.proofs.Common.{ℕ, ◌+◌, Option, ℤ, map, length, ap, ◌∙◌, arith}
-use Rattle.model_sets.specs.Members.{members}
-use Rattle.model_sets.specs.Names.{year}
-use Rattle.plan_compare.specs.Amounts.{sum_from, sum_of_two}
-use Rattle.plan_compare.specs.Scenarios.{side_of}
-use Rattle.plan_compare.specs.Sums.{shown_in}
+use Rattle.plan_compare.proofs.Common.{ℕ, ◌+◌, Option, ℤ, map, length, ap, ◌∙◌, arith, members, year, sum_from, sum_of_two, side_of, shown_in}
 use Rattle.plan_compare.proofs.RangeLaws.{from_to, sum_next}
 use Rattle.plan_compare.proofs.sums.sum_of.Goals as goal
 

@@ -1,11 +1,5 @@
 -- The sum so far, and the years that are left, make the whole sum.
-use Rattle.std.proofs.Common.{◌≡◌, ◌-◌, map, length}
-use Rattle.std.specs.List.{range_with_len}
-use Rattle.model_sets.specs.Members.{members}
-use Rattle.model_sets.specs.Names.{year}
-use Rattle.plan_compare.specs.Amounts.{sum_from}
-use Rattle.plan_compare.specs.Scenarios.{side_of}
-use Rattle.plan_compare.specs.Sums.{shown_in, sum_of}
+use Rattle.plan_compare.proofs.Common.{◌≡◌, ◌-◌, map, length, range_with_len, members, year, sum_from, side_of, shown_in, sum_of}
 use Rattle.plan_compare.proofs.sums.sum_of.Given as goal
 
 abbrev pub invariant-loop-year : goal.invariant-loop-year

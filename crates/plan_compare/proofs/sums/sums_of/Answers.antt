@@ -1,8 +1,5 @@
 -- Those of the first plan, and then those of the second.
-use Rattle.std.proofs.Common.{List, ◌++◌, filter, map, ap, ◌∙◌, rules}
-use Rattle.plan_compare.specs.Sums.{is_first, is_new_sum, sum_of_first, sum_of_second}
-use Rattle.plan_compare.specs.Scenarios.{Side, side_of}
-use Rattle.plan_compare.specs.declared.change.Change.{Change}
+use Rattle.plan_compare.proofs.Common.{List, ◌++◌, filter, map, ap, ◌∙◌, rules, is_first, is_new_sum, sum_of_first, sum_of_second, Side, side_of, Change}
 use Rattle.plan_compare.proofs.sums.sums_of.Goals as goal
 
 pub returns : goal.returns
