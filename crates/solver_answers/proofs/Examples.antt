@@ -39,6 +39,15 @@ no_zeroth_place : place_in 3 (codes "0") ≡ None
 unfolding whole_in
 no_zeroth_place = refl
 
+-- whole numbers end below 2^64
+greatest_whole : whole_in (codes "18446744073709551615") ≡ Some 18446744073709551615
+unfolding whole_in
+greatest_whole = refl
+
+no_such_whole : whole_in (codes "18446744073709551616") ≡ None
+unfolding whole_in
+no_such_whole = refl
+
 forms : form_of (codes "Optimal" ∷ []) ≡ Some Coin
 forms = refl
 
@@ -47,6 +56,21 @@ other_forms = refl
 
 no_form : form_of (codes "NAME,REGION,REGION2" ∷ []) ≡ None
 no_form = refl
+
+form_of_highs : form_of (codes "Model" ∷ codes "status" ∷ []) ≡ Some Highs
+form_of_highs = refl
+
+form_of_stopped : form_of (codes "Stopped" ∷ codes "on" ∷ codes "time" ∷ []) ≡ Some Coin
+form_of_stopped = refl
+
+form_of_integer : form_of (codes "Integer" ∷ codes "infeasible" ∷ []) ≡ Some Coin
+form_of_integer = refl
+
+form_of_status : form_of (codes "Status" ∷ codes "unknown" ∷ []) ≡ Some Coin
+form_of_status = refl
+
+form_of_solution : form_of (codes "s" ∷ codes "bas" ∷ []) ≡ Some Glpsol
+form_of_solution = refl
 
 -- ---- Clp and CBC
 
@@ -66,6 +90,23 @@ coin_of_more_columns = refl
 coin_of_sums : text_tells Coin 3 2 (codes "optimal\n 0 M7 10 0\n 1 R3 10 0\n") ≡ Breaks 3
 unfolding words number_in whole_in parse_float_on_literals float_is_finite
 coin_of_sums = refl
+
+-- a search that was stopped may have values of a plan; what is no plan has none
+coin_stopped : text_tells Coin 3 2 (codes "Stopped on time - objective value 80\n 0 C1 10 0\n") ≡ Gives (Blank ∷ Value 0 ten ∷ [])
+unfolding words number_in whole_in parse_float_on_literals float_is_finite
+coin_stopped = refl
+
+coin_of_integers : text_tells Coin 3 2 (codes "Integer infeasible - objective value 80\n 0 C1 10 0\n") ≡ Lacks
+unfolding words number_in whole_in parse_float_on_literals float_is_finite
+coin_of_integers = refl
+
+coin_of_unknown_status : text_tells Coin 3 2 (codes "Status unknown\n 0 C1 10 0\n") ≡ Lacks
+unfolding words number_in whole_in parse_float_on_literals float_is_finite
+coin_of_unknown_status = refl
+
+coin_unbounded : text_tells Coin 3 2 (codes "Unbounded - objective value 80\n 0 C1 10 0\n") ≡ Lacks
+unfolding words number_in whole_in parse_float_on_literals float_is_finite
+coin_unbounded = refl
 
 -- ---- glpsol
 
@@ -107,6 +148,39 @@ highs_without_plan = refl
 highs_without_values : text_tells Highs 3 2 (codes "Model status\nTime limit reached\n\n# Primal solution values\nNone\n") ≡ Lacks
 unfolding words number_in whole_in parse_float_on_literals float_is_finite
 highs_without_values = refl
+
+highs_unbounded : text_tells Highs 3 2 (codes "Model status\nUnbounded\n") ≡ Lacks
+unfolding words number_in whole_in parse_float_on_literals float_is_finite
+highs_unbounded = refl
+
+highs_of_neither : text_tells Highs 3 2 (codes "Model status\nPrimal infeasible or unbounded\n") ≡ Lacks
+unfolding words number_in whole_in parse_float_on_literals float_is_finite
+highs_of_neither = refl
+
+-- values of no plan are taken all the same
+highs_stopped : text_tells Highs 3 2 (codes "Model status\nTime limit reached\n\n# Primal solution values\nInfeasible\nObjective 80\n# Columns 3\nC1 10\n# Rows 1\nM4 10\n# Dual solution values\n") ≡ Gives (Blank ∷ Blank ∷ Blank ∷ Blank ∷ Blank ∷ Blank ∷ Blank ∷ Value 0 ten ∷ Blank ∷ Passed ∷ [])
+unfolding words number_in whole_in parse_float_on_literals float_is_finite
+highs_stopped = refl
+
+highs_of_more_columns : text_tells Highs 3 2 (codes "Model status\nOptimal\n# Columns 4\n") ≡ Breaks 3
+unfolding words number_in whole_in parse_float_on_literals float_is_finite
+highs_of_more_columns = refl
+
+highs_without_row_count : text_tells Highs 3 2 (codes "Model status\nOptimal\n# Rows many\n") ≡ Breaks 3
+unfolding words number_in whole_in parse_float_on_literals float_is_finite
+highs_without_row_count = refl
+
+highs_of_another_part : text_tells Highs 3 2 (codes "Model status\nOptimal\n# Basis\n") ≡ Breaks 3
+unfolding words number_in whole_in parse_float_on_literals float_is_finite
+highs_of_another_part = refl
+
+highs_value_and_more : text_tells Highs 3 2 (codes "Model status\nOptimal\nC1 10 0\n") ≡ Breaks 3
+unfolding words number_in whole_in parse_float_on_literals float_is_finite
+highs_value_and_more = refl
+
+highs_cut_off : text_tells Highs 3 2 (codes "Model status\nOptimal\nC1 10\n") ≡ Breaks 4
+unfolding words number_in whole_in parse_float_on_literals float_is_finite
+highs_cut_off = refl
 
 -- ---- values
 
