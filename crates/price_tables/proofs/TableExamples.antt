@@ -2,7 +2,9 @@
 use Rattle.std.proofs.Common.{◌≡◌, ◌-◌, ◌^◌, ℤ, pos, negsuc, List, [], ◌∷◌, Some, None, refl}
 use Rattle.std.specs.Fmt.{digits}
 use Rattle.std.specs.Global.{Vec}
-use Rattle.std.specs.Prelude.{codes}
+use Rattle.std.specs.List.{range_with_len}
+use Rattle.std.specs.Option.{option_map}
+use Rattle.std.specs.Prelude.{codes, filter, is_some, map}
 use Rattle.csv.specs.Writing.{escaped, fields_text, is_blank}
 use Rattle.exact_num.specs.Formed.{product_formed, quotient_formed}
 use Rattle.exact_num.specs.Gcd.{gcd_of, gcd_within}
@@ -11,11 +13,13 @@ use Rattle.exact_num.specs.Rational.{divided, lowest, pair, times, whole}
 use Rattle.model_sets.specs.Members.{SetLists}
 use Rattle.row_core.specs.declared.Row.{Row}
 use Rattle.row_core.specs.declared.Var.{Var}
+use Rattle.row_core.specs.declared.equation_numbers.TheConstants as equation
+use Rattle.row_core.specs.Kinds.{word_of_kind}
 use Rattle.scaled_decimals.specs.PrintedFraction.{fraction_text}
 use Rattle.scaled_decimals.specs.PrintedPlaces.{millionths, millionths_text}
 use Rattle.plan_tables.specs.declared.shown.NumberForm.TheVariants.{Decimals, Fractions}
 use Rattle.price_tables.specs.declared.shown.PriceTable.TheVariants.{Fuels, Limits}
-use Rattle.price_tables.specs.PricedRows.{price_table_named}
+use Rattle.price_tables.specs.PricedRows.{fuel_kind, limited_kind, price_table_named}
 use Rattle.price_tables.specs.PriceTables.{price_text}
 use Rattle.price_tables.proofs.AmountExamples.{Multiplied, another_most, at_row, balance, half_most, margin, renewables, ten_least}
 
@@ -33,6 +37,26 @@ no_other = refl
 
 no_values : price_table_named (codes "all") ≡ None
 no_values = refl
+
+-- ---- kinds
+
+-- the equations that are limits, of all from number 1 to 64, and the kinds of variables that they limit
+limiting : filter (λ eq. is_some (limited_kind eq)) (range_with_len 1 64)
+    ≡ equation.TCC1 ∷ equation.TCC2 ∷ equation.NCC1 ∷ equation.NCC2 ∷ equation.AAC2 ∷ equation.AAC3 ∷ equation.TAC2 ∷ equation.TAC3 ∷ equation.RM3 ∷ equation.RE4 ∷ equation.E8 ∷ equation.E9 ∷ []
+limiting = refl
+
+limited_kinds : map (λ eq. option_map word_of_kind (limited_kind eq)) (equation.TCC1 ∷ equation.TCC2 ∷ equation.NCC1 ∷ equation.NCC2 ∷ equation.AAC2 ∷ equation.AAC3 ∷ [])
+    ≡ Some (codes "TotalCapacityAnnual") ∷ Some (codes "TotalCapacityAnnual") ∷ Some (codes "NewCapacity") ∷ Some (codes "NewCapacity")
+    ∷ Some (codes "TotalTechnologyAnnualActivity") ∷ Some (codes "TotalTechnologyAnnualActivity") ∷ []
+limited_kinds = refl
+
+later_limited_kinds : map (λ eq. option_map word_of_kind (limited_kind eq)) (equation.TAC2 ∷ equation.TAC3 ∷ equation.RM3 ∷ equation.RE4 ∷ equation.E8 ∷ equation.E9 ∷ [])
+    ≡ Some (codes "TotalTechnologyModelPeriodActivity") ∷ Some (codes "TotalTechnologyModelPeriodActivity") ∷ Some (codes "TotalCapacityInReserveMargin")
+    ∷ Some (codes "TotalREProductionAnnual") ∷ Some (codes "AnnualEmissions") ∷ Some (codes "ModelPeriodEmissions") ∷ []
+later_limited_kinds = refl
+
+fuel_kinds : map (λ eq. option_map word_of_kind (fuel_kind eq)) (filter (λ eq. is_some (fuel_kind eq)) (range_with_len 1 64)) ≡ Some (codes "Production") ∷ Some (codes "ProductionAnnual") ∷ []
+fuel_kinds = refl
 
 -- ---- a model with a region, a technology with a comma, two fuels, two timeslices and three years
 
