@@ -1,6 +1,6 @@
 -- The multipliers of a proof that `check` accepts prove their bound, and so each price that `table` writes of them is promised.
 use Rattle.std.proofs.Common.{◌≡◌, ◌≢◌, ℕ, ℤ, pos, ◌<◌, List, [], ◌∷◌, ◌++◌, Option, None, Some, inl, inr, sym, ◌∙◌, ap, subst, refl, arith, rules}
-use Rattle.std.specs.Prelude.{◌<ℤ◌, unsigned_abs}
+use Rattle.std.specs.Prelude.{◌<ℤ◌, unsigned_abs, Contains}
 use Rattle.std.specs.List.{AllByRecursion}
 use Rattle.std.proofs.lemmas.Int.{ints}
 use Rattle.exact_num.specs.Rational.{Rational}
@@ -35,6 +35,7 @@ use Rattle.proof_files.specs.declared.proof.Proof.{Proof}
 use Rattle.proof_files.specs.declared.proof.Proof.TheVariants.{Optimum, Refutation, Descent}
 use Rattle.proof_files.specs.Proofs.{IsProof}
 use Rattle.plan_quantities.specs.RowPrices.{IsRowPromised}
+use Rattle.plan_quantities.specs.ShownRows.{IsToBeShown}
 use Rattle.plan_tables.specs.declared.shown.NumberForm.{NumberForm}
 use Rattle.price_tables.specs.declared.shown.PriceTable.{PriceTable}
 use Rattle.price_tables.specs.PriceAmounts.{row_price}
@@ -87,6 +88,12 @@ all_positive : {K : Type 0} (name_fields : K → Fields) (rows : List Fields) (t
 all_positive name_fields rows [] given = tt
 all_positive name_fields rows (e ∷ told) given = (given_positive (record_of rows (name_fields e.0)) e.1 given.0, all_positive name_fields rows told given.1)
 
+-- the law that a table forgets no row
+abbrev pub ShownRowLaw : Type 0
+ShownRowLaw =
+    (places : ℕ) (d : Data) (table : PriceTable) (multipliers : List (RowName × Rational)) (rows : List Row) (row : Row) → IsToBeShown places d table row.name → Contains rows row
+    → (value_in row_name_cmp multipliers row.name).top ≢ pos 0 → (p : Var) × Contains (priced_rows table multipliers rows) (row, p)
+
 positive_of : (s : ℕ) → 0 < s → pos 0 <ℤ pos s
 positive_of s h = omega (arith, ints)
 
@@ -94,7 +101,7 @@ positive_of s h = omega (arith, ints)
 abbrev pub DenominatorLaw : Type 0
 DenominatorLaw = (entries : List (RowName × Rational)) → AllByRecursion HasPositiveBottom entries → AreOverSome row_name_cmp entries
 
-module _ (laws : ProofLaws) (law : TableLaw) (denominators : DenominatorLaw) (places : ℕ) (d : Data) (bytes : List ℕ) (gap : ℕ) where
+module _ (laws : ProofLaws) (law : TableLaw) (complete : ShownRowLaw) (denominators : DenominatorLaw) (places : ℕ) (d : Data) (bytes : List ℕ) (gap : ℕ) where
   abbrev vars : List Var
   vars = all_variables d
 
@@ -139,6 +146,7 @@ module _ (laws : ProofLaws) (law : TableLaw) (denominators : DenominatorLaw) (pl
         are_rows = are;
         told = told;
         text_is = shows.1;
+        complete = λ row given shown nonzero. complete places d table multipliers rows row shown given nonzero;
         promised = promised-by rows multipliers table are (accepted-pass rows plan multipliers said due) some.over some.number (some.positive, some.each);
       }
   of-proof rows table form text (Refutation multipliers) said are told due shows = absurd (cc shows.0)

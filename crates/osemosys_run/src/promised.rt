@@ -9,11 +9,11 @@ ghost use Rattle.table_command.specs.Tables.{DueForTable, form_of};
 ghost use Rattle.osemosys_run.specs.Promised.{IsPromisedTable};
 
 use certificate_checker::denominator_laws;
-use plan_quantities::laws::table_laws;
+use plan_quantities::laws::{shown_row_laws, table_laws};
 use proof_files::proof_telling_laws;
 
-/// Where `table` writes what limits or fuels cost, its multipliers are those that the proof's file tells, and each of its prices is
-/// promised by them.
+/// Where `table` writes what limits or fuels cost, its multipliers are those that the proof's file tells, each of its prices is
+/// promised by them, and no limit or balance of a fuel whose multiplier isn't 0 is left out.
 pub fn promised_laws()
     ensures table_prices { (places gap : ℕ) (bytes name : List ℕ) (exact : Bool) (d : Data) (table : PriceTable) (text : List ℕ)
         → price_table_named name ≡ Some table
@@ -23,4 +23,5 @@ pub fn promised_laws()
     denominator_laws();
     proof_telling_laws();
     table_laws();
+    shown_row_laws();
 }

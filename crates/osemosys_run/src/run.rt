@@ -194,7 +194,8 @@ pub fn osemosys<S: Shelf, K: Sink>(
     ensures prices { (places : ℕ) (d : Data) (rows : List Row) (gap : ℕ) (plan : List (Var × Rational)) (multipliers : List (RowName × Rational)) (cost bound : Rational)
         → AreRowsOf places d (instances d) rows → IsNearOptimum places d rows gap plan multipliers cost bound → ArePromised places d rows multipliers bound }
 
-    // Where `table` writes what limits or fuels cost, the proof's multipliers promise each price.
+    // Where `table` writes what limits or fuels cost, the proof's multipliers promise each price, and every limit, or balance of a fuel, whose multiplier
+    // isn't 0 has its record.
     ensures table_prices { (places gap : ℕ) (bytes name : List ℕ) (exact : Bool) (d : Data) (table : PriceTable) (text : List ℕ)
         → price_table_named name ≡ Some table
         → DueForTable places (λ rows. DueForProofFile places d rows bytes gap) bytes name (form_of exact) d Status.Done text

@@ -11,3 +11,4 @@ mod SumExamples
 mod PriceExamples
 mod RowPriceExamples
 pub mod PromisedPrices
+pub mod ShownRowLaws

@@ -3,3 +3,4 @@ pub mod CostSums
 pub mod Quantities
 pub mod Prices
 pub mod RowPrices
+pub mod ShownRows

@@ -1,6 +1,6 @@
 //! Laws of the quantities and prices of a report. Each is proved as the contract of a function that does nothing.
 
-ghost use Rattle.std.specs.Prelude.{◌≡◌, ◌<◌, ℕ, ℤ, pos, ◌+ℤ◌, ◌*ℤ◌, ◌≤ℤ◌, true, List, Contains};
+ghost use Rattle.std.specs.Prelude.{◌≡◌, ◌≢◌, ◌<◌, ℕ, ℤ, pos, ◌+ℤ◌, ◌*ℤ◌, ◌≤ℤ◌, true, List, Contains};
 ghost use Rattle.exact_num.specs.Rational.{Rational};
 ghost use Rattle.model_sets.specs.Data.{Data};
 ghost use Rattle.row_core.specs.declared.Index.{Index};
@@ -22,7 +22,10 @@ ghost use Rattle.plan_quantities.specs.Quantities.{AreQuantities};
 ghost use Rattle.plan_quantities.specs.RowPrices.{FeasibleWithLess, IsRowPromised, row_price_over};
 ghost use Rattle.price_tables.specs.declared.shown.PriceTable.{PriceTable};
 ghost use Rattle.price_tables.specs.PriceAmounts.{row_price};
+ghost use Rattle.plan_quantities.specs.ShownRows.{IsToBeShown};
 ghost use Rattle.price_tables.specs.PricedRows.{priced_rows};
+ghost use Rattle.row_core.specs.Order.{row_name_cmp};
+ghost use Rattle.row_core.specs.Plans.{value_in};
 ghost use Rattle.std.specs.List.{AllByRecursion};
 ghost use Rattle.row_core.specs.declared.kind_numbers.TheConstants.{PRODUCTION};
 ghost use Rattle.named_equations.specs.Variables.{variable};
@@ -76,4 +79,11 @@ pub fn table_laws()
         → AreRowsOf places d (instances d) rows → Proves model_cost rows (all_variables d) s y
         → AreMultipliersOver s y multipliers → IsOver (pos s) bound (bound_of y rows)
         → AllByRecursion (λ e. IsRowPromised places d e.0.name e.1 bound (row_price multipliers e.0 e.1)) (priced_rows table multipliers rows) }
+{}
+
+/// A table of prices forgets no row: each limit and each balance of a fuel whose multiplier isn't 0 is shown, with a variable.
+pub fn shown_row_laws()
+    ensures { (places : ℕ) (d : Data) (table : PriceTable) (multipliers : List (RowName × Rational)) (rows : List Row) (row : Row)
+        → IsToBeShown places d table row.name → Contains rows row → (value_in row_name_cmp multipliers row.name).top ≢ pos 0
+        → (p : Var) × Contains (priced_rows table multipliers rows) (row, p) }
 {}
