@@ -1,24 +1,33 @@
 -- Tables with another value at one place mean the data with that value at one index.
-use Rattle.std.proofs.Common.{◌≡◌, ◌≢◌, ℕ, ◌+◌, ◌-◌, ◌<◌, ◌≤◌, ◌∷◌, Bool, List, [], ℤ, pos, Some, None, length, drop, nat_eq, get_or, refl, sym, ap, ap₂, ◌∙◌, subst, inl, inr, arith, All}
-use Rattle.std.specs.List.{zip}
+use Rattle.std.proofs.Common.{◌≡◌, ◌≢◌, ℕ, ◌+◌, ◌-◌, ◌<◌, ◌≤◌, ◌∷◌, ◌&&◌, Bool, true, false, cond, List, [], ℤ, pos, Option, Some, None, length, drop, nat_eq, get_or, refl, sym, ap, ap₂, ◌∙◌, subst, inl, inr, arith, All}
+use Rattle.std.specs.Cmp.Lexicographic.{pointwise}
+use Rattle.std.specs.List.{find, zip}
 use Rattle.std.specs.List.Sorted.{IsStrictlyIncreasing}
-use Rattle.std.specs.Option.{option_or}
-use Rattle.std.specs.Prelude.{Contains, IsSomeAnd, if◌then◌else◌}
-use Rattle.std.proofs.lemmas.Bool.{cases_eq, cases_lt, eq-eqb, ne_eqb}
+use Rattle.std.specs.Option.{option_map, option_or}
+use Rattle.std.specs.Prelude.{◌⊎◌, Contains, IsSomeAnd, if◌then◌else◌}
+use Rattle.std.specs.Str.{bytes_eq}
+use Rattle.std.proofs.lemmas.Bool.{cases_eq, cases_lt, eq-eqb, eqb-true, ne_eqb}
 use Rattle.std.proofs.lemmas.List.{drop_all, drop_more, get_or_default}
 use Rattle.std.proofs.lemmas.Option.{slice_get-get_or}
 use Rattle.std.proofs.lemmas.Slice.Zip.{get_or-zip, length-zip}
-use Rattle.model_sets.specs.Data.{Data, IsUsedParam, indices_of, value_at}
+use Rattle.model_sets.specs.Data.{Data, Given, IsUsedParam, default_of, given_at, indices_of, is_given_at, value_at, value_of_none}
 use Rattle.model_sets.specs.Members.{SetLists}
-use Rattle.model_sets.specs.Params.{range_of}
+use Rattle.model_sets.specs.Params.{range_of, subscript_sets}
+use Rattle.model_sets.proofs.ParamLaws.{subscripts_are_sets}
 use Rattle.param_tables.specs.Built.{AreComplete, IsValueIn}
+use Rattle.param_tables.specs.Canonical.{given_value, with_given, with_value_at}
 use Rattle.param_tables.specs.Changed.{AreDataWith}
 use Rattle.param_tables.specs.ChangedTables.{AreTablesWith, IsCopyOf, IsTableWith}
-use Rattle.param_tables.specs.Tables.{AreTablesFor, HaveShapes, IsTable, IsUsable, entries_of, given_in, table_value, value_else}
-use Rattle.param_tables.specs.View.{AreKept, facts_of}
+use Rattle.param_tables.specs.SameData.{GiveTheSame}
+use Rattle.param_tables.specs.Tables.{AreTablesFor, HaveShapes, IsTable, IsUsable, entries_of, given_in}
+use Rattle.param_tables.specs.View.{AreKept, data_by, facts_of}
 use Rattle.param_tables.specs.declared.param_table.ParamTable.{ParamTable}
+use Rattle.param_tables.proofs.CanonicalLaws.{canonical_one, default_canonical, given_canonical, value_canonical}
 use Rattle.param_tables.proofs.EntryLaws.{given_at_place, given_none}
-use Rattle.param_tables.proofs.FactLaws.{tables_for_facts}
+use Rattle.param_tables.proofs.FactLaws.{tables_for_data}
+use Rattle.param_tables.proofs.GivenLaws.{names_same}
+use Rattle.param_tables.proofs.IndexLaws.{indices_apart, names_apart_from}
+use Rattle.param_tables.proofs.KeptLaws.{complete_canonical}
 use Rattle.param_tables.proofs.ViewLaws.{usable}
 
 -- ---- the values given, from a place of their list on
@@ -67,28 +76,87 @@ shape_of_copy size old new is copy = record {
   below = subst (λ (places : List ℕ). All (λ q. q < size) places) (sym copy.places) is.below;
 }
 
-value_of_copy : (p place : ℕ) (old new : ParamTable) → IsCopyOf old new → table_value p new place ≡ table_value p old place
-value_of_copy p place old new copy =
-    ap₂ (λ ps vs. option_or (given_in (zip ps vs) place) (value_else p new.default)) copy.places copy.values
-    ∙ ap (λ default. option_or (given_in (entries_of old) place) (value_else p default)) copy.default
+given_of_copy : (place : ℕ) (old new : ParamTable) → IsCopyOf old new → given_in (entries_of new) place ≡ given_in (entries_of old) place
+given_of_copy place old new copy = ap₂ (λ ps vs. given_in (zip ps vs) place) copy.places copy.values
 
-value_with : (p place : ℕ) (v : ℤ) (old new : ParamTable) → IsTableWith place v old new → table_value p new place ≡ Some v
-value_with p place v old new with =
-    ap (λ o. option_or o (value_else p new.default)) (with.given place ∙ ap (λ b. if b then Some v else given_in (entries_of old) place) (eq-eqb place place refl))
+given_with : (place : ℕ) (v : ℤ) (old new : ParamTable) → IsTableWith place v old new → given_in (entries_of new) place ≡ Some v
+given_with place v old new with = with.given place ∙ ap (λ b. if b then Some v else given_in (entries_of old) place) (eq-eqb place place refl)
 
-value_beside : (p place q : ℕ) (v : ℤ) (old new : ParamTable) → q ≢ place → IsTableWith place v old new → table_value p new q ≡ table_value p old q
-value_beside p place q v old new other with =
-    ap (λ o. option_or o (value_else p new.default)) (with.given q ∙ ap (λ b. if b then Some v else given_in (entries_of old) q) (ne_eqb q place other))
-    ∙ ap (λ default. option_or (given_in (entries_of old) q) (value_else p default)) with.default
+given_elsewhere : (place q : ℕ) (v : ℤ) (old new : ParamTable) → q ≢ place → IsTableWith place v old new → given_in (entries_of new) q ≡ given_in (entries_of old) q
+given_elsewhere place q v old new other with = with.given q ∙ ap (λ b. if b then Some v else given_in (entries_of old) q) (ne_eqb q place other)
+
+-- ---- the data with a value
+
+module _ (d : Data) (p : ℕ) (index : List (List ℕ)) (v : ℤ) where
+  -- the value stands first
+  abbrev is_found : ℕ → List (List ℕ) → Bool
+  is_found q other = nat_eq p q && pointwise bytes_eq index other
+
+  pub given_here : given_at (with_given d p index v) p index ≡ Some v
+  given_here =
+      let found : is_found p index ≡ true = ap (λ b. b && pointwise bytes_eq index index) (eq-eqb p p refl) ∙ (names_same index index).1 refl in
+      ap (λ b. option_map (λ (g : Given). g.value) (cond b (Some (given_value p index v)) (find (is_given_at p index) d.given))) found
+
+  -- it is looked for, or it isn't
+  here_or_beside : (q : ℕ) (other : List (List ℕ)) → ((q ≡ p) × (other ≡ index)) ⊎ (is_found q other ≡ false)
+  here_or_beside q other = by (nat_eq p q) (pointwise bytes_eq index other) refl refl
+    where
+      by : (a b : Bool) → nat_eq p q ≡ a → pointwise bytes_eq index other ≡ b → ((q ≡ p) × (other ≡ index)) ⊎ ((a && b) ≡ false)
+      by true true same same_names = inl (sym (eqb-true p q same), sym ((names_same index other).0 same_names))
+      by true false same names = inr refl
+      by false b same names = inr refl
+
+  not_found : (q : ℕ) (other : List (List ℕ)) → is_found q other ≡ false → given_at (with_given d p index v) q other ≡ given_at d q other
+  not_found q other beside = ap (λ b. option_map (λ (g : Given). g.value) (cond b (Some (given_value p index v)) (find (is_given_at q other) d.given))) beside
+
+  pub given_beside : (q : ℕ) (other : List (List ℕ)) → (q ≡ p → other ≡ index → ⊥) → given_at (with_given d p index v) q other ≡ given_at d q other
+  given_beside q other apart = elim (here_or_beside q other) [
+    | inl here ↦ absurd (apart here.0 here.1)
+    | inr beside ↦ not_found q other beside
+  ]
+
+  value_by : ℕ → Option ℤ → Option ℤ
+  value_by q given = option_or given (option_or (default_of d q) (value_of_none q))
+
+  -- the data are those with the value
+  pub data_with : IsUsedParam d p → Contains (indices_of d.sets p) index → AreDataWith p index v d (with_value_at d p index v)
+  unfolding value_by
+  data_with used has = record {
+    sets = refl;
+    second = refl;
+    here = value_canonical (with_given d p index v) p used index has ∙ ap (value_by p) given_here;
+    elsewhere = λ q is_used other has_other apart. value_canonical (with_given d p index v) q is_used other has_other ∙ ap (value_by q) (given_beside q other apart);
+  }
+
+  -- and are complete where the data are
+  pub complete_with : AreComplete d → IsValueIn (range_of p) v → AreComplete (with_value_at d p index v)
+  unfolding value_by
+  complete_with complete is = complete_canonical (with_given d p index v) (record {
+    sets = complete.sets;
+    values = λ q used other has. elim (here_or_beside q other) [
+      | inl here ↦
+          let found : value_at (with_given d p index v) q other ≡ Some v = ap₂ (λ n names. value_at (with_given d p index v) n names) here.0 here.1 ∙ ap (value_by p) given_here in
+          subst (λ o. IsSomeAnd o (IsValueIn (range_of q))) (sym found) (subst (λ (n : ℕ). IsValueIn (range_of n) v) (sym here.0) is)
+      | inr beside ↦
+          let stays : value_at (with_given d p index v) q other ≡ value_at d q other = ap (value_by q) (not_found q other beside) in
+          subst (λ o. IsSomeAnd o (IsValueIn (range_of q))) (sym stays) (complete.values q used other has)
+    ];
+  })
 
 -- ---- all tables
 
 module _ (sets : SetLists) (old new : List ParamTable) (second : Bool) (kept : AreKept sets old second) (p place : ℕ) (v : ℤ) (used : IsUsedParam (facts_of sets old second) p) (inside : place < length (indices_of sets p)) (is : IsValueIn (range_of p) v) (with : AreTablesWith p place v old new) where
   abbrev before : Data
-  before = facts_of sets old second
+  before = data_by sets old second
 
   abbrev after : Data
-  after = facts_of sets new second
+  after = data_by sets new second
+
+  abbrev index : List (List ℕ)
+  index = get_or (indices_of sets p) place []
+
+  abbrev wanted : Data
+  wanted = with_given (facts_of sets old second) p index v
 
   -- the table of another parameter is a copy
   copy_of : (q : ℕ) → IsUsable q → q ≢ p → (e : ParamTable) → IsCopyOf (get_or old (q - 1) e) (get_or new (q - 1) e)
@@ -111,64 +179,70 @@ module _ (sets : SetLists) (old new : List ParamTable) (second : Bool) (kept : A
       ]
 
   tabled : AreTablesFor after new
-  tabled = tables_for_facts sets new second kept.complete.sets shapes
+  tabled = tables_for_data sets new second kept.complete.sets shapes
 
   module _ (e : ParamTable) where
-    at_here : value_at after p (get_or (indices_of sets p) place []) ≡ Some v
-    at_here = (tabled.each p (usable before p used) e).values place inside ∙ value_with p place v (get_or old (p - 1) e) (get_or new (p - 1) e) (with.here e)
+    -- what was given before at another index, and is given still
+    stays : (q i : ℕ) → IsUsedParam before q → i < length (indices_of sets q) → (q ≡ p → i ≢ place) → given_in (entries_of (get_or old (q - 1) e)) i ≡ given_at wanted q (get_or (indices_of sets q) i [])
+    stays q i is_used below apart =
+        let name = get_or (indices_of sets q) i [] in
+        let has : Contains (indices_of sets q) name = (i, below, get_or_default (indices_of sets q) i name [] below) in
+        let beside : q ≡ p → name ≡ index → ⊥ = λ same same_name.
+        let short : place < length (indices_of sets q) = subst (λ (n : ℕ). place < length (indices_of sets n)) (sym same) inside in
+        apart same (indices_apart sets (names_apart_from sets kept.complete.sets) (subscript_sets q) i place (subscripts_are_sets q is_used.0) below short (same_name ∙ ap (λ n. get_or (indices_of sets n) place []) (sym same))) in
+        sym ((kept.tabled.each q (usable before q is_used) e).given i below)
+        ∙ sym (given_canonical before q name has is_used)
+        ∙ sym (given_beside (facts_of sets old second) p index v q name beside)
 
-    by_places : (q i : ℕ) → IsUsable q → i < length (indices_of sets q) → (q ≡ p → i ≢ place) → table_value q (get_or new (q - 1) e) i ≡ table_value q (get_or old (q - 1) e) i
-    by_places q i usable below apart = elim (cases_eq q p) [
+    at_place : (q i : ℕ) → IsUsedParam before q → i < length (indices_of sets q) → given_in (entries_of (get_or new (q - 1) e)) i ≡ given_at wanted q (get_or (indices_of sets q) i [])
+    at_place q i is_used below = elim (cases_eq q p) [
       | inl same ↦
-          subst (λ (n : ℕ). table_value n (get_or new (n - 1) e) i ≡ table_value n (get_or old (n - 1) e) i) (sym same)
-          (value_beside p place i v (get_or old (p - 1) e) (get_or new (p - 1) e) (apart same) (with.here e))
-      | inr other ↦ value_of_copy q i (get_or old (q - 1) e) (get_or new (q - 1) e) (copy_of q usable other e)
+          subst (λ (n : ℕ). IsUsedParam before n → i < length (indices_of sets n) → given_in (entries_of (get_or new (n - 1) e)) i ≡ given_at wanted n (get_or (indices_of sets n) i [])) (sym same)
+          (λ used_here below_here. elim (cases_eq i place) [
+            | inl at ↦
+                ap (given_in (entries_of (get_or new (p - 1) e))) at
+                ∙ given_with place v (get_or old (p - 1) e) (get_or new (p - 1) e) (with.here e)
+                ∙ sym (ap (λ k. given_at wanted p (get_or (indices_of sets p) k [])) at ∙ given_here (facts_of sets old second) p index v)
+            | inr beside ↦ given_elsewhere place i v (get_or old (p - 1) e) (get_or new (p - 1) e) beside (with.here e) ∙ stays p i used_here below_here (λ e_same at. beside at)
+          ])
+          is_used below
+      | inr other ↦ given_of_copy i (get_or old (q - 1) e) (get_or new (q - 1) e) (copy_of q (usable before q is_used) other e) ∙ stays q i is_used below (λ same. absurd (other same))
     ]
 
-    at_place : (q i : ℕ) → IsUsable q → i < length (indices_of sets q) → (q ≡ p → i ≢ place) → value_at after q (get_or (indices_of sets q) i []) ≡ value_at before q (get_or (indices_of sets q) i [])
-    at_place q i usable below apart = (tabled.each q usable e).values i below ∙ by_places q i usable below apart ∙ sym ((kept.tabled.each q usable e).values i below)
+    same_default : (q : ℕ) → IsUsedParam before q → (get_or new (q - 1) e).default ≡ (get_or old (q - 1) e).default
+    same_default q is_used = elim (cases_eq q p) [
+      | inl same ↦ ap (λ (n : ℕ). (get_or new (n - 1) e).default) same ∙ (with.here e).default ∙ ap (λ (n : ℕ). (get_or old (n - 1) e).default) (sym same)
+      | inr other ↦ (copy_of q (usable before q is_used) other e).default
+    ]
 
-    elsewhere : (q : ℕ) → IsUsedParam before q → (other : List (List ℕ)) → Contains (indices_of sets q) other → (q ≡ p → other ≡ get_or (indices_of sets p) place [] → ⊥) → value_at after q other ≡ value_at before q other
-    elsewhere q is_used other has apart =
-        let i = has.0 in
-        let below : i < length (indices_of sets q) = has.1 in
-        let name : get_or (indices_of sets q) i [] ≡ other = get_or_default (indices_of sets q) i [] other below ∙ has.2 in
-        ap (value_at after q) (sym name)
-        ∙ at_place q i (usable before q is_used) below (λ same e_same. apart same (sym name ∙ ap₂ (λ n k. get_or (indices_of sets n) k []) same e_same))
-        ∙ ap (value_at before q) name
+    gives : GiveTheSame after wanted
+    gives = record {
+      sets = refl;
+      second = refl;
+      values = λ q is_used other has.
+          let i = has.0 in
+          let below : i < length (indices_of sets q) = has.1 in
+          let name : get_or (indices_of sets q) i [] ≡ other = get_or_default (indices_of sets q) i [] other below ∙ has.2 in
+          ap (given_at after q) (sym name) ∙ (tabled.each q (usable after q is_used) e).given i below ∙ at_place q i is_used below ∙ ap (given_at wanted q) name;
+      defaults = λ q is_used.
+          (tabled.each q (usable after q is_used) e).default
+          ∙ same_default q is_used
+          ∙ sym ((kept.tabled.each q (usable before q is_used) e).default)
+          ∙ sym (default_canonical before q is_used);
+    }
 
-    pub data_with : AreDataWith p (get_or (indices_of sets p) place []) v before after
-    data_with = record { sets = refl; second = refl; here = at_here; elsewhere = elsewhere }
-
-    complete : AreComplete after
-    complete = record { sets = kept.complete.sets; values = values }
-      where
-        values : (q : ℕ) → IsUsedParam after q → (index : List (List ℕ)) → Contains (indices_of sets q) index → IsSomeAnd (value_at after q index) (IsValueIn (range_of q))
-        values q is_used index has =
-            let i = has.0 in
-            let below : i < length (indices_of sets q) = has.1 in
-            let name : get_or (indices_of sets q) i [] ≡ index = get_or_default (indices_of sets q) i [] index below ∙ has.2 in
-            subst (λ n. IsSomeAnd (value_at after q n) (IsValueIn (range_of q))) name (elim (cases_eq q p) [
-              | inl same ↦ elim (cases_eq i place) [
-                | inl at ↦
-                    let here : value_at after q (get_or (indices_of sets q) i []) ≡ Some v = ap₂ (λ n k. value_at after n (get_or (indices_of sets n) k [])) same at ∙ at_here in
-                    subst (λ o. IsSomeAnd o (IsValueIn (range_of q))) (sym here) (subst (λ (n : ℕ). IsValueIn (range_of n) v) (sym same) is)
-                | inr beside ↦ stays q i is_used below (λ q_same at. beside at)
-              ]
-              | inr other ↦ stays q i is_used below (λ q_same. absurd (other q_same))
-            ])
-          where
-            stays : (q i : ℕ) → IsUsedParam after q → i < length (indices_of sets q) → (q ≡ p → i ≢ place) → IsSomeAnd (value_at after q (get_or (indices_of sets q) i [])) (IsValueIn (range_of q))
-            stays q i is_used below apart =
-                subst (λ o. IsSomeAnd o (IsValueIn (range_of q))) (sym (at_place q i (usable after q is_used) below apart))
-                (kept.complete.values q is_used (get_or (indices_of sets q) i []) (i, below, get_or_default (indices_of sets q) i (get_or (indices_of sets q) i []) [] below))
+    pub facts_with : facts_of sets new second ≡ with_value_at (facts_of sets old second) p index v
+    facts_with = canonical_one after wanted gives
 
     pub kept_with : AreKept sets new second
-    kept_with = record { tabled = tabled; complete = complete }
+    kept_with = record {
+      tabled = tabled;
+      complete = subst AreComplete (sym facts_with) (complete_with (facts_of sets old second) p index v kept.complete is);
+    }
 
 -- tables with another value of a parameter that the data use
 pub changed : (sets : SetLists) (old new : List ParamTable) (second : Bool) → AreKept sets old second → (p place : ℕ) (v : ℤ) → IsUsedParam (facts_of sets old second) p → place < length (indices_of sets p) → IsValueIn (range_of p) v → AreTablesWith p place v old new
-    → AreKept sets new second × AreDataWith p (get_or (indices_of sets p) place []) v (facts_of sets old second) (facts_of sets new second)
+    → AreKept sets new second × (facts_of sets new second ≡ with_value_at (facts_of sets old second) p (get_or (indices_of sets p) place []) v)
 changed sets [] new second kept p place v used inside is with = let none = kept.tabled.all in absurd (omega (arith, none))
 changed sets (e ∷ old) new second kept p place v used inside is with =
-    (kept_with sets (e ∷ old) new second kept p place v used inside is with e, data_with sets (e ∷ old) new second kept p place v used inside is with e)
+    (kept_with sets (e ∷ old) new second kept p place v used inside is with e, facts_with sets (e ∷ old) new second kept p place v used inside is with e)

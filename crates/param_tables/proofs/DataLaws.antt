@@ -1,5 +1,5 @@
 -- The data of statements, statement by statement.
-use Rattle.std.proofs.Common.{◌≡◌, ◌≢◌, ℕ, zero, suc, ◌+◌, ◌<◌, ◌≤◌, Bool, true, false, cond, ◌&&◌, List, [], ◌∷◌, ◌++◌, Option, None, Some, length, map, nat_eq, get_or, take, refl, sym, ap, ◌∙◌, subst, inl, inr, arith, All}
+use Rattle.std.proofs.Common.{◌≡◌, ◌≢◌, ℕ, zero, suc, ◌+◌, ◌<◌, ◌≤◌, Bool, true, false, cond, ◌&&◌, List, [], ◌∷◌, ◌++◌, Option, None, Some, length, map, nat_eq, get_or, take, refl, sym, ap, ap₂, ◌∙◌, subst, inl, inr, arith, All}
 use Rattle.std.specs.Prelude.{ℤ, if◌then◌else◌}
 use Rattle.std.specs.Cmp.Lexicographic.{pointwise}
 use Rattle.std.specs.List.{IsDistinct, cons_option, filter_map, find, flat_map}
@@ -11,17 +11,18 @@ use Rattle.std.proofs.lemmas.List.Concat.{flat_map-append}
 use Rattle.std.proofs.lemmas.List.Elements.{filter_map-append}
 use Rattle.std.proofs.lemmas.List.Folds.{find-append}
 use Rattle.std.proofs.lemmas.Map.Keys.{apart_from_distinct}
-use Rattle.model_sets.specs.Data.{Default, Given, default_of, given_at, is_given_at, value_at, value_of_none}
+use Rattle.model_sets.specs.Data.{Data, Default, Given, default_of, given_at, indices_of, is_given_at, value_at, value_of_none}
 use Rattle.model_sets.specs.Members.{SetLists}
 use Rattle.param_tables.specs.BlockData.{data_of, given_of, givens_of, stated_default}
 use Rattle.mathprog_data.specs.Meaning.{ParamBlock, GivenValue}
-use Rattle.param_tables.specs.Tables.{given_among, value_else}
+use Rattle.param_tables.specs.Tables.{IsTableFor, given_among, table_value}
+use Rattle.param_tables.specs.declared.param_table.ParamTable.{ParamTable}
 
 option_or-none : {X : Type 0} (o : Option X) → option_or o None ≡ o
 option_or-none None = refl
 option_or-none (Some x) = refl
 
-option_or-map : {X Y : Type 0} (f : X → Y) (o p : Option X) → option_map f (option_or o p) ≡ option_or (option_map f o) (option_map f p)
+pub option_or-map : {X Y : Type 0} (f : X → Y) (o p : Option X) → option_map f (option_or o p) ≡ option_or (option_map f o) (option_map f p)
 option_or-map f None p = refl
 option_or-map f (Some x) p = refl
 
@@ -77,12 +78,9 @@ module _ (sets : SetLists) (xs : List ParamBlock) (s : ParamBlock) (p : ℕ) whe
       ∙ ap (λ b. option_or (given_at (data_of sets xs) p index) (if b then given_among s.values index else None)) (ne_eqb s.param p other)
       ∙ option_or-none (given_at (data_of sets xs) p index)
 
-  pub value_at-other : (s.param ≢ p) → (index : List (List ℕ)) → value_at (data_of sets (xs ++ s ∷ [])) p index ≡ value_at (data_of sets xs) p index
-  value_at-other other index =
-      let no : nat_eq s.param p ≡ false = ne_eqb s.param p other in
-      let given : given_at (data_of sets (xs ++ s ∷ [])) p index ≡ given_at (data_of sets xs) p index = given_at-other other index in
-      let default : default_of (data_of sets (xs ++ s ∷ [])) p ≡ default_of (data_of sets xs) p = default_of-push ∙ ap (λ b. option_or (default_of (data_of sets xs) p) (if b then s.default else None)) no ∙ option_or-none (default_of (data_of sets xs) p) in
-      ap (λ o. option_or o (option_or (default_of (data_of sets (xs ++ s ∷ [])) p) (value_of_none p))) given ∙ ap (λ o. option_or (given_at (data_of sets xs) p index) (option_or o (value_of_none p))) default
+  pub default_of-other : (s.param ≢ p) → default_of (data_of sets (xs ++ s ∷ [])) p ≡ default_of (data_of sets xs) p
+  default_of-other other =
+      default_of-push ∙ ap (λ b. option_or (default_of (data_of sets xs) p) (if b then s.default else None)) (ne_eqb s.param p other) ∙ option_or-none (default_of (data_of sets xs) p)
 
   -- the statement is on the parameter, and none before it is
   pub given_at-here : s.param ≡ p → ((index : List (List ℕ)) → given_at (data_of sets xs) p index ≡ None) → (index : List (List ℕ)) → given_at (data_of sets (xs ++ s ∷ [])) p index ≡ given_among s.values index
@@ -91,12 +89,9 @@ module _ (sets : SetLists) (xs : List ParamBlock) (s : ParamBlock) (p : ℕ) whe
       ∙ ap (λ o. option_or o (if nat_eq s.param p then given_among s.values index else None)) (no_value index)
       ∙ ap (λ b. if b then given_among s.values index else None) (eq-eqb s.param p same)
 
-  pub value_at-here : s.param ≡ p → ((index : List (List ℕ)) → given_at (data_of sets xs) p index ≡ None) → default_of (data_of sets xs) p ≡ None → (index : List (List ℕ)) → value_at (data_of sets (xs ++ s ∷ [])) p index ≡ option_or (given_among s.values index) (value_else p s.default)
-  value_at-here same no_value no_default index =
-      let yes : nat_eq s.param p ≡ true = eq-eqb s.param p same in
-      let given : given_at (data_of sets (xs ++ s ∷ [])) p index ≡ given_among s.values index = given_at-here same no_value index in
-      let default : default_of (data_of sets (xs ++ s ∷ [])) p ≡ s.default = default_of-push ∙ ap (λ o. option_or o (if nat_eq s.param p then s.default else None)) no_default ∙ ap (λ b. if b then s.default else None) yes in
-      ap (λ o. option_or o (option_or (default_of (data_of sets (xs ++ s ∷ [])) p) (value_of_none p))) given ∙ ap (λ o. option_or (given_among s.values index) (option_or o (value_of_none p))) default
+  pub default_of-here : s.param ≡ p → default_of (data_of sets xs) p ≡ None → default_of (data_of sets (xs ++ s ∷ [])) p ≡ s.default
+  default_of-here same no_default =
+      default_of-push ∙ ap (λ o. option_or o (if nat_eq s.param p then s.default else None)) no_default ∙ ap (λ b. if b then s.default else None) (eq-eqb s.param p same)
 
 -- ---- no statement on the parameter
 
@@ -158,16 +153,22 @@ module _ (sets : SetLists) (all : List ParamBlock) (distinct : IsDistinct nat_eq
   of_all : (P : List ParamBlock → Type 0) → P (take i all ++ s ∷ []) → ((xs : List ParamBlock) (t : ParamBlock) → t.param ≢ s.param → P xs → P (xs ++ t ∷ [])) → P all
   of_all P here more = subst P (take_all (length all) all (omega arith)) (carried P here more (length all) inside (omega arith))
 
-  pub value_of_statement : value_at (data_of sets all) s.param index ≡ option_or (given_among s.values index) (value_else s.param s.default)
-  value_of_statement =
-      let none = none_before sets all i s distinct inside at in
-      of_all (λ xs. value_at (data_of sets xs) s.param index ≡ option_or (given_among s.values index) (value_else s.param s.default))
-      (value_at-here sets (take i all) s s.param refl none.0 none.1 index)
-      (λ xs t other so_far. value_at-other sets xs t s.param other index ∙ so_far)
-
   pub given_of_statement : given_at (data_of sets all) s.param index ≡ given_among s.values index
   given_of_statement =
       let none = none_before sets all i s distinct inside at in
       of_all (λ xs. given_at (data_of sets xs) s.param index ≡ given_among s.values index)
       (given_at-here sets (take i all) s s.param refl none.0 index)
       (λ xs t other so_far. given_at-other sets xs t s.param other index ∙ so_far)
+
+  pub default_of_statement : default_of (data_of sets all) s.param ≡ s.default
+  default_of_statement =
+      let none = none_before sets all i s distinct inside at in
+      of_all (λ xs. default_of (data_of sets xs) s.param ≡ s.default)
+      (default_of-here sets (take i all) s s.param refl none.1)
+      (λ xs t other so_far. default_of-other sets xs t s.param other ∙ so_far)
+
+-- ---- the value by a table
+
+-- the value at the index of a place is that of the table there
+pub value_by_table : (d : Data) (p : ℕ) (table : ParamTable) → IsTableFor d p table → (place : ℕ) → place < length (indices_of d.sets p) → value_at d p (get_or (indices_of d.sets p) place []) ≡ table_value p table place
+value_by_table d p table for place below = ap₂ (λ given default. option_or given (option_or default (value_of_none p))) (for.given place below) for.default

@@ -8,6 +8,7 @@ use Rattle.model_sets.specs.declared.fault.SetFault.{SetFault}
 use Rattle.model_sets.specs.Data.{value_at}
 use Rattle.param_tables.specs.BlockData.{data_told, set_lists}
 use Rattle.param_tables.specs.Built.{AreGivenAlike, is_given}
+use Rattle.param_tables.specs.Canonical.{canonical, defaults_in_order, given_in_order}
 use Rattle.param_tables.specs.Positions.{names_at}
 use Rattle.param_tables.specs.Ranges.{whole}
 use Rattle.model_sets.specs.Names.{set_word}
@@ -130,6 +131,11 @@ accepted = refl
 kept : value_at (data_told base) 5 (codes "R" ∷ codes "F" ∷ codes "2020" ∷ []) ≡ Some (whole 10)
 unfolding base of some_sets defaults on_set by_default
 kept = refl
+
+-- defaults alone, one of each parameter in order, are in canonical form
+in_form : canonical (data_told base) ≡ data_told base
+unfolding base of some_sets defaults on_set by_default given_in_order defaults_in_order
+in_form = refl
 
 unit : Blocks
 unit = of some_sets (but (by_values 18 []))

@@ -3,22 +3,22 @@ use Rattle.std.proofs.Common.{◌≡◌, ℕ, suc, ◌+◌, ◌-◌, ◌<◌, �
 use Rattle.std.specs.Prelude.{ℤ}
 use Rattle.std.specs.Cmp.Lexicographic.{pointwise}
 use Rattle.std.specs.List.{IsDistinct, cons_option, enumerate_from, filter_map, find, flat_map, range_with_len, zip}
-use Rattle.std.specs.Option.{option_map, option_or}
+use Rattle.std.specs.Option.{option_map}
 use Rattle.std.specs.Str.{bytes_eq}
 use Rattle.std.proofs.lemmas.Bool.{cases_eq, eq-eqb, ne_eqb}
 use Rattle.std.proofs.lemmas.List.{get_or-map, length-map}
 use Rattle.std.proofs.lemmas.List.FromFn.{get_or-enumerate_from, get_or-range_with_len, length-enumerate_from, length-range_with_len}
 use Rattle.std.proofs.lemmas.Map.Keys.{IsDistinct-from_apart}
 use Rattle.mathprog_data.specs.declared.blocks.Mark.{Mark}
-use Rattle.model_sets.specs.Data.{given_at, indices_of, is_given_at, value_at}
+use Rattle.model_sets.specs.Data.{Default, default_of, given_at, indices_of, is_given_at}
 use Rattle.model_sets.specs.Members.{SetLists, AreSets}
 use Rattle.model_sets.specs.Params.{IsParam, param_count, subscript_sets}
 use Rattle.param_tables.specs.BlockData.{data_of, given_of, givens_of, stated_default}
 use Rattle.mathprog_data.specs.Meaning.{ParamBlock, GivenValue}
-use Rattle.param_tables.specs.Tables.{AreTablesFor, HaveShapes, IsUsable, IsTable, IsTableFor, entries_of, given_among, given_in, table_value, value_else}
-use Rattle.param_tables.specs.View.{default_by, facts_of, given_by}
+use Rattle.param_tables.specs.Tables.{AreTablesFor, HaveShapes, IsUsable, IsTable, IsTableFor, entries_of, given_among, given_in}
+use Rattle.param_tables.specs.View.{default_by, data_by, given_by}
 use Rattle.param_tables.specs.declared.param_table.ParamTable.{ParamTable}
-use Rattle.param_tables.proofs.DataLaws.{given_of_statement, value_of_statement}
+use Rattle.param_tables.proofs.DataLaws.{default_of_statement, given_of_statement}
 use Rattle.param_tables.proofs.GivenLaws.{names_same}
 use Rattle.param_tables.proofs.IndexLaws.{HaveApart, indices_apart, names_apart_from}
 use Rattle.model_sets.proofs.ParamLaws.{subscripts_are_sets}
@@ -36,7 +36,7 @@ statement_by sets param table = record { param = param; default = table.default;
 statements_by : SetLists → ℕ → List ParamTable → List ParamBlock
 statements_by sets n tables = map (λ (param, table). statement_by sets param table) (enumerate_from n tables)
 
--- ---- the same data
+-- ---- what is given
 
 map-map : {A B C : Type 0} (g : B → C) (f : A → B) (xs : List A) → map g (map f xs) ≡ map (λ x. g (f x)) xs
 map-map g f [] = refl
@@ -52,14 +52,12 @@ unfolding statements_by statement_by
 same_defaults sets n [] = refl
 same_defaults sets n (t ∷ ts) = ap (cons_option (default_by n t)) (same_defaults sets (n + 1) ts)
 
-same_givens : (sets : SetLists) (tables : List ParamTable) (second : Bool) (p : ℕ) (index : List (List ℕ)) → given_at (facts_of sets tables second) p index ≡ given_at (data_of sets (statements_by sets 1 tables)) p index
+same_givens : (sets : SetLists) (tables : List ParamTable) (second : Bool) (p : ℕ) (index : List (List ℕ)) → given_at (data_by sets tables second) p index ≡ given_at (data_of sets (statements_by sets 1 tables)) p index
 same_givens sets tables second p index = ap (λ gs. option_map (λ g. g.value) (find (is_given_at p index) gs)) (same_given sets 1 tables)
 
 -- but for the statement on DiscountRateIdv
-same_values : (sets : SetLists) (tables : List ParamTable) (second : Bool) (p : ℕ) (index : List (List ℕ)) → value_at (facts_of sets tables second) p index ≡ value_at (data_of sets (statements_by sets 1 tables)) p index
-same_values sets tables second p index =
-    ap (λ given. value_at (record { sets = sets; given = given; defaults = filter_map (λ (param, table). default_by param table) (enumerate_from 1 tables); second = second }) p index) (same_given sets 1 tables)
-    ∙ ap (λ defaults. value_at (record { sets = sets; given = flat_map givens_of (statements_by sets 1 tables); defaults = defaults; second = second }) p index) (same_defaults sets 1 tables)
+same_default : (sets : SetLists) (tables : List ParamTable) (second : Bool) (p : ℕ) → default_of (data_by sets tables second) p ≡ default_of (data_of sets (statements_by sets 1 tables)) p
+same_default sets tables second p = ap (λ ds. option_map (λ (d : Default). d.value) (find (λ (d : Default). nat_eq d.param p) ds)) (same_defaults sets 1 tables)
 
 -- ---- one statement for each parameter
 
@@ -101,9 +99,9 @@ module _ (sets : SetLists) (apart : HaveApart sets) (p : ℕ) (listed : IsParam 
       of_cond false e = e
 
 -- tables with the shapes of the parameters are those of the data that they mean
-pub tables_for_facts : (sets : SetLists) (tables : List ParamTable) (second : Bool) → AreSets sets → HaveShapes sets tables → AreTablesFor (facts_of sets tables second) tables
+pub tables_for_data : (sets : SetLists) (tables : List ParamTable) (second : Bool) → AreSets sets → HaveShapes sets tables → AreTablesFor (data_by sets tables second) tables
 unfolding statements_by statement_by
-tables_for_facts sets tables second are shapes = record { all = shapes.all; each = each }
+tables_for_data sets tables second are shapes = record { all = shapes.all; each = each }
   where
     all : List ParamBlock
     all = statements_by sets 1 tables
@@ -111,8 +109,8 @@ tables_for_facts sets tables second are shapes = record { all = shapes.all; each
     distinct : IsDistinct nat_eq (map (λ s. s.param) all)
     distinct = subst (IsDistinct nat_eq) (sym (params_by sets 1 tables)) (numbers_apart 1 (length tables))
 
-    each : (p : ℕ) → IsUsable p → (e : ParamTable) → IsTableFor (facts_of sets tables second) p (get_or tables (p - 1) e)
-    each p used e = record { shape = shape; given = given; values = values }
+    each : (p : ℕ) → IsUsable p → (e : ParamTable) → IsTableFor (data_by sets tables second) p (get_or tables (p - 1) e)
+    each p used e = record { shape = shape; given = given; default = default }
       where
         low : 1 ≤ p
         low = used.0.0
@@ -146,14 +144,11 @@ tables_for_facts sets tables second are shapes = record { all = shapes.all; each
         by_places : (place : ℕ) → place < length (indices_of sets p) → given_among s.values (get_or (indices_of sets p) place []) ≡ given_in (entries_of table) place
         by_places place below = given_by_place sets (names_apart_from sets are) p used.0 table.places.items table.values.items place shape.below below
 
-        given : (place : ℕ) → place < length (indices_of sets p) → given_at (facts_of sets tables second) p (get_or (indices_of sets p) place []) ≡ given_in (entries_of (get_or tables (p - 1) e)) place
+        given : (place : ℕ) → place < length (indices_of sets p) → given_at (data_by sets tables second) p (get_or (indices_of sets p) place []) ≡ given_in (entries_of (get_or tables (p - 1) e)) place
         given place below =
             same_givens sets tables second p (get_or (indices_of sets p) place [])
             ∙ given_of_statement sets all distinct (p - 1) s inside at (get_or (indices_of sets p) place [])
             ∙ by_places place below
 
-        values : (place : ℕ) → place < length (indices_of sets p) → value_at (facts_of sets tables second) p (get_or (indices_of sets p) place []) ≡ table_value p (get_or tables (p - 1) e) place
-        values place below =
-            same_values sets tables second p (get_or (indices_of sets p) place [])
-            ∙ value_of_statement sets all distinct (p - 1) s inside at (get_or (indices_of sets p) place [])
-            ∙ ap (λ o. option_or o (value_else p table.default)) (by_places place below)
+        default : default_of (data_by sets tables second) p ≡ table.default
+        default = same_default sets tables second p ∙ default_of_statement sets all distinct (p - 1) s inside at []

@@ -1,6 +1,6 @@
--- Tables that no check refuses are complete data, the same that the statements give.
-use Rattle.std.proofs.Common.{◌≡◌, ℕ, zero, suc, ◌-◌, ◌<◌, Bool, true, false, cond, List, [], ◌∷◌, ◌++◌, Option, None, Some, pos, length, map, nat_eq, get_or, refl, sym, ap, ◌∙◌, subst, arith, All}
-use Rattle.std.specs.Prelude.{ℤ, Contains, IfSome, IsSomeAnd, is_some, if◌then◌else◌}
+-- Tables that no check refuses are complete data, those that the statements give.
+use Rattle.std.proofs.Common.{◌≡◌, ℕ, zero, suc, ◌-◌, ◌<◌, Bool, true, false, cond, List, [], ◌∷◌, ◌++◌, Option, None, Some, pos, length, map, nat_eq, get_or, refl, sym, ap, ap₂, ◌∙◌, subst, arith, All}
+use Rattle.std.specs.Prelude.{ℤ, Contains, IfSome, IsSomeAnd, if◌then◌else◌}
 use Rattle.std.specs.List.{cons_option, filter_map, find, flat_map, range_with_len}
 use Rattle.std.specs.Option.{option_map, option_or}
 use Rattle.std.proofs.lemmas.List.{get_or_default}
@@ -10,15 +10,18 @@ use Rattle.model_sets.specs.Data.{Data, Default, Given, IsUsedParam, used_params
 use Rattle.model_sets.specs.Members.{SetLists, AreSets}
 use Rattle.model_sets.specs.Params.{param_count, range_of}
 use Rattle.param_tables.specs.BlockData.{data_of, given_of, givens_of, has_second, stated_default}
-use Rattle.param_tables.specs.Built.{AreComplete, AreGivenAlike, AreSameData, IsValueIn}
+use Rattle.param_tables.specs.Built.{AreComplete, IsValueIn}
+use Rattle.param_tables.specs.Canonical.{canonical}
 use Rattle.param_tables.specs.Refusals.{AtIndex, fault_at, param_refusals, value_fault}
 use Rattle.mathprog_data.specs.Meaning.{ParamBlock, GivenValue}
 use Rattle.param_tables.specs.Tables.{AreTablesFor, HaveShapes}
-use Rattle.param_tables.specs.View.{AreKept, facts_of}
+use Rattle.param_tables.specs.SameData.{GiveTheSame}
+use Rattle.param_tables.specs.View.{AreKept, data_by, facts_of}
 use Rattle.mathprog_data.specs.WellFormed.{IsWithinLimit, IsParamBlock}
 use Rattle.param_tables.specs.declared.param_table.ParamTable.{ParamTable}
 use Rattle.model_sets.specs.declared.params.Range.{Range}
-use Rattle.param_tables.proofs.FactLaws.{tables_for_facts}
+use Rattle.param_tables.proofs.CanonicalLaws.{canonical_one, value_canonical}
+use Rattle.param_tables.proofs.FactLaws.{tables_for_data}
 use Rattle.param_tables.proofs.ParamLaws.{if_used, refusals_if_used, used_each}
 use Rattle.param_tables.proofs.RangeRules.{in_range_from}
 use Rattle.param_tables.proofs.ViewLaws.{usable}
@@ -27,10 +30,10 @@ use Rattle.param_tables.proofs.ViewLaws.{usable}
 pub shapes_of : (d : Data) (tables : List ParamTable) → AreTablesFor d tables → HaveShapes d.sets tables
 shapes_of d tables for = record { all = for.all; each = λ p used e. (for.each p used e).shape }
 
--- ---- the same values
+-- ---- the same data
 
--- two data with the same tables are the same
-pub same_tables : (d e : Data) (tables : List ParamTable) → d.sets ≡ e.sets → d.second ≡ e.second → AreTablesFor d tables → AreTablesFor e tables → AreSameData d e
+-- two data with the same tables give the same
+pub same_tables : (d e : Data) (tables : List ParamTable) → d.sets ≡ e.sets → d.second ≡ e.second → AreTablesFor d tables → AreTablesFor e tables → GiveTheSame d e
 same_tables d e [] same use_same ford fore = absurd (omega (arith, ford.all))
 same_tables d e (table ∷ tables) same use_same ford fore = record {
   sets = same;
@@ -42,21 +45,15 @@ same_tables d e (table ∷ tables) same use_same ford fore = record {
       let name : get_or (indices_of d.sets p) place [] ≡ index = get_or_default (indices_of d.sets p) place [] index below ∙ has.2 in
       let there : place < length (indices_of e.sets p) = let P : SetLists → Type 0 = λ sets. place < length (indices_of sets p) in subst P same below in
       let name_there : get_or (indices_of e.sets p) place [] ≡ index = ap (λ sets. get_or (indices_of sets p) place []) (sym same) ∙ name in
-      ap (value_at d p) (sym name) ∙ (ford.each p kept table).values place below ∙ sym ((fore.each p kept table).values place there) ∙ ap (value_at e p) name_there;
+      ap (given_at d p) (sym name) ∙ (ford.each p kept table).given place below ∙ sym ((fore.each p kept table).given place there) ∙ ap (given_at e p) name_there;
+  defaults = λ p used. let kept = usable d p used in (ford.each p kept table).default ∙ sym (fore.each p kept table).default;
 }
 
--- and the same values were given
-pub alike_tables : (d e : Data) (tables : List ParamTable) → d.sets ≡ e.sets → AreTablesFor d tables → AreTablesFor e tables → AreGivenAlike d e
-alike_tables d e [] same ford fore = absurd (omega (arith, ford.all))
-alike_tables d e (table ∷ tables) same ford fore = record {
-  each = λ p used index has.
-      let kept = usable d p used in
-      let place = has.0 in
-      let below : place < length (indices_of d.sets p) = has.1 in
-      let name : get_or (indices_of d.sets p) place [] ≡ index = get_or_default (indices_of d.sets p) place [] index below ∙ has.2 in
-      let there : place < length (indices_of e.sets p) = let P : SetLists → Type 0 = λ sets. place < length (indices_of sets p) in subst P same below in
-      let name_there : get_or (indices_of e.sets p) place [] ≡ index = ap (λ sets. get_or (indices_of sets p) place []) (sym same) ∙ name in
-      ap is_some (ap (given_at d p) (sym name) ∙ (ford.each p kept table).given place below ∙ sym ((fore.each p kept table).given place there) ∙ ap (given_at e p) name_there);
+-- data in canonical form are complete where the data are
+pub complete_canonical : (d : Data) → AreComplete d → AreComplete (canonical d)
+complete_canonical d is = record {
+  sets = is.sets;
+  values = λ p used index has. subst (λ o. IsSomeAnd o (IsValueIn (range_of p))) (sym (value_canonical d p used index has)) (is.values p used index has);
 }
 
 -- ---- numbers
@@ -162,18 +159,20 @@ complete_of d are free numbers = record { sets = are; values = values }
         let free_here : fault_at d p index ≡ None = ap (fault_at d p) (sym name) ∙ free_there in
         value_in (range_of p) (value_at d p index) free_here (numbers p used index has)
 
--- tables that no check refuses are kept, and are those of the statements
-pub same_facts_told : (sets : SetLists) (params : List ParamBlock) (tables : List ParamTable) (second : Bool) → second ≡ has_second params → AreSets sets → AreTablesFor (data_of sets params) tables → AreSameData (facts_of sets tables second) (data_of sets params)
-same_facts_told sets params tables second told are for = same_tables (facts_of sets tables second) (data_of sets params) tables refl told (tables_for_facts sets tables second are (shapes_of (data_of sets params) tables for)) for
+-- tables of the statements mean their data
+pub facts_told : (sets : SetLists) (params : List ParamBlock) (tables : List ParamTable) (second : Bool) → second ≡ has_second params → AreSets sets → AreTablesFor (data_of sets params) tables → facts_of sets tables second ≡ canonical (data_of sets params)
+facts_told sets params tables second told are for =
+    canonical_one (data_by sets tables second) (data_of sets params)
+    (same_tables (data_by sets tables second) (data_of sets params) tables refl told (tables_for_data sets tables second are (shapes_of (data_of sets params) tables for)) for)
 
-pub alike_facts_told : (sets : SetLists) (params : List ParamBlock) (tables : List ParamTable) (second : Bool) → AreSets sets → AreTablesFor (data_of sets params) tables → AreGivenAlike (facts_of sets tables second) (data_of sets params)
-alike_facts_told sets params tables second are for = alike_tables (facts_of sets tables second) (data_of sets params) tables refl (tables_for_facts sets tables second are (shapes_of (data_of sets params) tables for)) for
-
-pub kept_of : (sets : SetLists) (params : List ParamBlock) (tables : List ParamTable) (second : Bool) → second ≡ has_second params → AreSets sets → AreTablesFor (data_of sets params) tables → All IsParamBlock params → flat_map (param_refusals (facts_of sets tables second)) (used_params (facts_of sets tables second)) ≡ [] → AreKept sets tables second
+-- and are kept where no check refuses them
+pub kept_of : (sets : SetLists) (params : List ParamBlock) (tables : List ParamTable) (second : Bool) → second ≡ has_second params → AreSets sets → AreTablesFor (data_of sets params) tables → All IsParamBlock params → flat_map (param_refusals (data_by sets tables second)) (used_params (data_by sets tables second)) ≡ [] → AreKept sets tables second
 kept_of sets params tables second told are for every free =
-    let tabled = tables_for_facts sets tables second are (shapes_of (data_of sets params) tables for) in
-    let same = same_facts_told sets params tables second told are for in
+    let d = data_by sets tables second in
+    let tabled = tables_for_data sets tables second are (shapes_of (data_of sets params) tables for) in
+    let same = same_tables d (data_of sets params) tables refl told tabled for in
     record {
       tabled = tabled;
-      complete = complete_of (facts_of sets tables second) are free (λ p used index has. subst (λ o. IfSome o IsWithinLimit) (sym (same.values p used index has)) (values_are_numbers sets params p index every));
+      complete = complete_canonical d (complete_of d are free (λ p used index has.
+          subst (λ o. IfSome o IsWithinLimit) (sym (ap₂ (λ given default. option_or given (option_or default (value_of_none p))) (same.values p used index has) (same.defaults p used))) (values_are_numbers sets params p index every)));
     }

@@ -1,5 +1,7 @@
 pub mod AscendingLaws
 pub mod BuildLaws
+mod CanonicalExamples
+pub mod CanonicalLaws
 pub mod ChangeLaws
 mod ChangedExamples
 pub mod CopyLaws

@@ -16,7 +16,7 @@ use Rattle.param_tables.specs.Positions.{names_at}
 use Rattle.param_tables.specs.RatioPlaces.{AreBlocks, AreIndicesAt, AreKeptWith, ArePlacesOf, IsPartBetween, IsWithin, group_of, group_size, index_at_offset, is_given_nonzero, is_nonzero_value, places_of, ratio_place, ratio_sizes, region_size}
 use Rattle.param_tables.specs.Ratios.{AreMembersFor, IsRegion, IsTechnology, has_nonzero_mode, is_nonzero_in, is_ratio_nonzero, nonzero_indices, nonzero_modes, nonzero_technologies, ratio_param}
 use Rattle.param_tables.specs.Tables.{IsTableFor, IsUsable, entries_of, given_in, value_else}
-use Rattle.param_tables.specs.View.{facts_of}
+use Rattle.param_tables.specs.View.{data_by, facts_of}
 use Rattle.param_tables.specs.declared.param_table.ParamTable.{ParamTable}
 use Rattle.param_tables.specs.declared.ratio_places.AllRatioPlaces.{AllRatioPlaces}
 use Rattle.param_tables.specs.declared.ratio_sizes.RatioSizes.{RatioSizes}
@@ -85,8 +85,8 @@ module _ (sets : SetLists) (tables : List ParamTable) (second : Bool) (all : All
   pub places_kept : ArePlacesOf (ratio_sizes sets ratio) table (places_of all ratio)
   places_kept = subst (λ t. ArePlacesOf (ratio_sizes sets ratio) t (places_of all ratio)) (sym is) (kept.places ratio table)
 
-  table_kept : IsTableFor (facts_of sets tables second) (ratio_param ratio) table
-  table_kept = subst (IsTableFor (facts_of sets tables second) (ratio_param ratio)) (sym is) (kept.kept.tabled.each (ratio_param ratio) (ratio_is_usable ratio) table)
+  table_kept : IsTableFor (data_by sets tables second) (ratio_param ratio) table
+  table_kept = subst (IsTableFor (data_by sets tables second) (ratio_param ratio)) (sym is) (kept.kept.tabled.each (ratio_param ratio) (ratio_is_usable ratio) table)
 
   -- the places of indices ascend
   pub in_order_rises : IsStrictlyIncreasing (places_of all ratio).in_order.items

@@ -12,6 +12,7 @@ use Rattle.param_tables.specs.declared.fault.CellFault.{CellFault}
 use Rattle.param_tables.specs.declared.first_fault.PlaceFault.{PlaceFault}
 use Rattle.param_tables.specs.declared.param_table.ParamTable.{ParamTable}
 use Rattle.model_sets.specs.declared.params.Range.{Range}
+use Rattle.param_tables.proofs.DataLaws.{value_by_table}
 
 -- ---- the first of what is kept of a list
 
@@ -37,7 +38,7 @@ module _ (d : Data) (param : ℕ) (table : ParamTable) (for : IsTableFor d param
   table_fault place = place_fault (range_of param) (value_fault (range_of param) (value_else param table.default)) (given_in (entries_of table) place)
 
   fault_at-place : (place : ℕ) → place < length (indices_of d.sets param) → fault_at d param (get_or (indices_of d.sets param) place []) ≡ table_fault place
-  fault_at-place place below = ap (value_fault (range_of param)) (for.values place below) ∙ value_fault-else (range_of param) (given_in (entries_of table) place) (value_else param table.default)
+  fault_at-place place below = ap (value_fault (range_of param)) (value_by_table d param table for place below) ∙ value_fault-else (range_of param) (given_in (entries_of table) place) (value_else param table.default)
 
   refusal_of : List (List ℕ) → Option Refusal
   refusal_of index = option_map (λ fault. AtIndex fault param index) (fault_at d param index)

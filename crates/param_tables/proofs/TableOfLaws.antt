@@ -3,24 +3,23 @@ use Rattle.std.proofs.Common.{◌≡◌, ◌≢◌, ℕ, true, false, ◌+◌, �
 use Rattle.std.specs.Prelude.{ℤ, pos, Result, Err, IfErr, if◌then◌else◌}
 use Rattle.std.specs.List.{IsDistinct, zip}
 use Rattle.std.specs.List.Sorted.{IsStrictlyIncreasing}
-use Rattle.std.specs.Option.{option_or}
 use Rattle.std.proofs.lemmas.Bool.{cases_eq, cases_lt, false≢true}
 use Rattle.std.proofs.lemmas.List.{get_or_default, get_or-set_same, get_or-set_other, length-set, take_more}
 use Rattle.std.proofs.lemmas.Option.{slice_get-get_or}
-use Rattle.model_sets.specs.Data.{default_of, given_at, indices_of, value_of_none}
+use Rattle.model_sets.specs.Data.{default_of, given_at, indices_of}
 use Rattle.model_sets.specs.Members.{SetLists}
 use Rattle.model_sets.specs.Params.{is_used, param_at, param_count}
 use Rattle.param_tables.specs.BlockData.{data_of}
 use Rattle.param_tables.specs.InTurn.{in_turn}
 use Rattle.param_tables.specs.Refusals.{Refusal, value_refusal, value_refusals}
 use Rattle.mathprog_data.specs.Meaning.{ParamBlock}
-use Rattle.param_tables.specs.Tables.{AreGiven, AreTablesFor, IsUsable, IsTableFor, IsTableOf, entries_of, given_in, value_else}
+use Rattle.param_tables.specs.Tables.{AreGiven, AreTablesFor, IsUsable, IsTableFor, IsTableOf, entries_of, given_in}
 use Rattle.param_tables.specs.Stops.{IsStopDue}
 use Rattle.param_tables.specs.Told.{refusal_told}
 use Rattle.param_tables.specs.declared.fault.Stop.{Stop}
 use Rattle.param_tables.specs.declared.fault.Stop.TheVariants as stop
 use Rattle.param_tables.specs.declared.param_table.ParamTable.{ParamTable}
-use Rattle.param_tables.proofs.DataLaws.{given_at-here, given_at-other, none_before, value_at-here, value_at-other}
+use Rattle.param_tables.proofs.DataLaws.{default_of-here, default_of-other, given_at-here, given_at-other, none_before}
 use Rattle.param_tables.proofs.EntryLaws.{given_at_place}
 
 some_none : (v : ℤ) → Some v ≡ None → ⊥
@@ -64,7 +63,7 @@ module _ (sets : SetLists) where
   table_stays xs s p table other for = record {
     shape = for.shape;
     given = λ place below. given_at-other sets xs s p other (get_or (indices_of sets p) place []) ∙ for.given place below;
-    values = λ place below. value_at-other sets xs s p other (get_or (indices_of sets p) place []) ∙ for.values place below;
+    default = default_of-other sets xs s p other ∙ for.default;
   }
 
   -- the first statement on the parameter
@@ -72,10 +71,7 @@ module _ (sets : SetLists) where
   table_comes xs s table none of = record {
     shape = of.shape;
     given = λ place below. given_at-here sets xs s s.param refl none.0 (get_or (indices_of sets s.param) place []) ∙ sym (of.given place below);
-    values = λ place below.
-        value_at-here sets xs s s.param refl none.0 none.1 (get_or (indices_of sets s.param) place [])
-        ∙ ap (λ o. option_or o (value_else s.param s.default)) (sym (of.given place below))
-        ∙ ap (λ o. option_or (given_in (entries_of table) place) (value_else s.param o)) (sym of.default);
+    default = default_of-here sets xs s s.param refl none.1 ∙ sym of.default;
   }
 
   module _ (all : List ParamBlock) (i : ℕ) (s : ParamBlock) (below : i < length all) (at : get_or all i s ≡ s) (tables : List ParamTable) (so_far : AreTablesFor (data_of sets (take i all)) tables) where
@@ -135,9 +131,7 @@ table_of_nothing sets p table empty = record {
     below = λ k d inside. absurd (omega (arith, ap length empty.places));
   };
   given = λ place below. sym (ap (λ ps. given_in (zip ps table.values.items) place) empty.places);
-  values = λ place below.
-      ap (λ o. option_or o (value_of_none p)) (sym empty.default)
-      ∙ ap (λ o. option_or o (value_else p table.default)) (sym (ap (λ ps. given_in (zip ps table.values.items) place) empty.places));
+  default = sym empty.default;
 }
 
 pub tables_of_nothing : (sets : SetLists) (tables : List ParamTable) → length tables ≡ param_count → ((j : ℕ) → j < param_count → (e : ParamTable) → IsEmptyTable (get_or tables j e)) → AreTablesFor (data_of sets []) tables

@@ -5,6 +5,7 @@ pub use Rattle.model_sets.specs.Data.{AreSameData}
 use Rattle.model_sets.specs.Data.{Data, IsUsedParam, given_at, indices_of, value_at}
 use Rattle.model_sets.specs.Members.{AreSets}
 use Rattle.param_tables.specs.BlockData.{data_told}
+use Rattle.param_tables.specs.Canonical.{canonical}
 use Rattle.param_tables.specs.Positions.{names_at}
 use Rattle.model_sets.specs.Params.{range_of}
 use Rattle.param_tables.specs.Ranges.{IsInRange, billion}
@@ -25,8 +26,9 @@ is_given d param index = is_some (given_at d param index)
 pub record AreGivenAlike (d e : Data) : Type 0 where
   pub each : (param : ℕ) → IsUsedParam d param → (index : List (List ℕ)) → Contains (indices_of d.sets param) index → is_given d param index ≡ is_given e param index
 
--- what is built is what the statements give, and is given where they give it
+-- what is built is what the statements give, in canonical form; so it has the same values, and is given where they give it
 pub record IsBuiltFrom (statements : Blocks) (built : Built) : Type 0 where
+  pub facts_are : built.facts ≡ canonical (data_told statements)
   pub facts : AreSameData built.facts (data_told statements)
   pub given : AreGivenAlike built.facts (data_told statements)
   pub rounded : built.rounded ≡ statements.rounded

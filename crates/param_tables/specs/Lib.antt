@@ -1,5 +1,6 @@
 pub mod BlockData
 pub mod Built
+pub mod Canonical
 pub mod Changed
 pub mod ChangedTables
 pub mod InTurn
@@ -9,6 +10,7 @@ pub mod Ranges
 pub mod RatioPlaces
 pub mod Ratios
 pub mod Refusals
+pub mod SameData
 pub mod SetRefusals
 pub mod Stops
 pub mod Tables

@@ -6,7 +6,7 @@ use Rattle.std.specs.Map.{lookup}
 use Rattle.std.specs.Option.{option_map, option_or}
 use Rattle.std.specs.Cmp.Lexicographic.{pointwise}
 use Rattle.std.specs.Str.{bytes_eq}
-use Rattle.model_sets.specs.Data.{Data, given_at, indices_of, value_at, value_of_none}
+use Rattle.model_sets.specs.Data.{Data, default_of, given_at, indices_of, value_of_none}
 use Rattle.model_sets.specs.Members.{SetLists}
 use Rattle.model_sets.specs.Params.{IsParam, is_used, param_at, param_count}
 use Rattle.param_tables.specs.Ranges.{range_fault}
@@ -47,11 +47,11 @@ pub record IsTable (size : ℕ) (table : ParamTable) : Type 0 where
   pub long : length table.values.items ≡ length table.places.items
   pub below : All (λ place. place < size) table.places.items
 
--- the table says the values of the parameter and which of them were given, place by place
+-- the table says the values given for the parameter, place by place, and its default
 pub record IsTableFor (d : Data) (param : ℕ) (table : ParamTable) : Type 0 where
   pub shape : IsTable (length (indices_of d.sets param)) table
   pub given : (place : ℕ) → place < length (indices_of d.sets param) → given_at d param (slice_index_or (indices_of d.sets param) place []) ≡ given_in (entries_of table) place
-  pub values : (place : ℕ) → place < length (indices_of d.sets param) → value_at d param (slice_index_or (indices_of d.sets param) place []) ≡ table_value param table place
+  pub default : default_of d param ≡ table.default
 
 -- the table says what the statement says
 pub record IsTableOf (sets : SetLists) (statement : ParamBlock) (table : ParamTable) : Type 0 where

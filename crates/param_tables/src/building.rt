@@ -5,7 +5,8 @@ ghost use Rattle.std.specs.List.{flat_map};
 ghost use Rattle.model_sets.specs.Data.{Data, used_params};
 ghost use Rattle.model_sets.specs.Members.{AreSets};
 ghost use Rattle.param_tables.specs.BlockData.{data_told, has_second, set_lists};
-ghost use Rattle.param_tables.specs.Built.{AreComplete, AreGivenAlike, AreSameData, IsBuiltFrom};
+ghost use Rattle.param_tables.specs.Built.{AreComplete, IsBuiltFrom};
+ghost use Rattle.param_tables.specs.Canonical.{canonical};
 ghost use Rattle.param_tables.specs.InTurn.{first_of};
 ghost use Rattle.param_tables.specs.RatioPlaces.{AreKeptWith};
 ghost use Rattle.param_tables.specs.Refusals.{first_refusal, param_refusals};
@@ -77,8 +78,7 @@ fn checked_tables(
     requires sets { sets.now ≡ set_lists (blocks_told blocks.now) }
     requires second { second ≡ has_second (params_told blocks.now.params.items) }
     ensures kept { IfOk result (λ tables. AreKept sets.now tables.items second) }
-    ensures same { IfOk result (λ tables. AreSameData (facts_of sets.now tables.items second) (data_told (blocks_told blocks.now))) }
-    ensures alike { IfOk result (λ tables. AreGivenAlike (facts_of sets.now tables.items second) (data_told (blocks_told blocks.now))) }
+    ensures facts { IfOk result (λ tables. facts_of sets.now tables.items second ≡ canonical (data_told (blocks_told blocks.now))) }
     ensures accepted { OnOk result (first_refusal (blocks_told blocks.now) ≡ None) }
     ensures refused { IfErr result (IsStopDue (first_refusal (blocks_told blocks.now)) sets.now) }
 {
@@ -101,8 +101,7 @@ fn checked_parts(
     requires sets { sets.now ≡ set_lists (blocks_told blocks.now) }
     requires second { second ≡ has_second (params_told blocks.now.params.items) }
     ensures kept { IfOk result (λ parts. AreKeptWith sets.now parts.tables.items second parts.ratios) }
-    ensures same { IfOk result (λ parts. AreSameData (facts_of sets.now parts.tables.items second) (data_told (blocks_told blocks.now))) }
-    ensures alike { IfOk result (λ parts. AreGivenAlike (facts_of sets.now parts.tables.items second) (data_told (blocks_told blocks.now))) }
+    ensures facts { IfOk result (λ parts. facts_of sets.now parts.tables.items second ≡ canonical (data_told (blocks_told blocks.now))) }
     ensures accepted { OnOk result (first_refusal (blocks_told blocks.now) ≡ None) }
     ensures refused { IfErr result (IsStopDue (first_refusal (blocks_told blocks.now)) sets.now) }
 {

@@ -25,7 +25,7 @@ mod tried;
 
 pub use building::build;
 pub use fault::{BuildFail, BuildFault, Cell, CellFault};
-pub use laws::range_laws;
+pub use laws::{canonical_laws, range_laws};
 pub use model_data::ModelData;
 pub use ratios::{ActivityRatio, RatioIndex};
 pub use set_members::sets_of;

@@ -146,7 +146,6 @@ impl ModelData {
     /// parameter at each other index, and the same number of rounded numbers. The value is in billionths, lies in the parameter's
     /// range, and is from -10^24 to 10^24. It may run out of memory. What is kept is copied: time and memory are in proportion to
     /// the members and the values that are given, a sort of those of the ratios and of the parameter apart.
-    /// What `is_given` answers of these data isn't said: it is a question on the data of a text.
     pub fn with_value(
         &self,
         alloc: Global,

@@ -4,7 +4,7 @@ use Rattle.mathprog_data.specs.BlocksView.{blocks_told}
 use Rattle.param_tables.specs.RatioPlaces.{AreAllPlaces}
 use Rattle.param_tables.specs.Refusals.{first_refusal}
 use Rattle.param_tables.specs.Tables.{HaveShapes}
-use Rattle.param_tables.specs.View.{facts_of}
+use Rattle.param_tables.specs.View.{data_by}
 use Rattle.param_tables.proofs.KeptLaws.{shapes_of}
 use Rattle.param_tables.proofs.building.checked_parts.Goals as goal
 
@@ -17,7 +17,7 @@ new-requires-clause-sets c = c.in_ok-tables.ensures.kept.complete.sets
 pub new-requires-clause-shapes : goal.new-requires-clause-shapes
 new-requires-clause-shapes c =
     let kept = c.in_ok-tables.ensures.kept in
-    subst (HaveShapes c.args.sets.now) (sym c.as_slice.ensures.value) (shapes_of (facts_of c.args.sets.now c.in_ok-tables.tables.items c.args.second) c.in_ok-tables.tables.items kept.tabled)
+    subst (HaveShapes c.args.sets.now) (sym c.as_slice.ensures.value) (shapes_of (data_by c.args.sets.now c.in_ok-tables.tables.items c.args.second) c.in_ok-tables.tables.items kept.tabled)
 
 pub returns-in_err-ratios-clause-accepted : goal.returns-in_err-ratios-clause-accepted
 returns-in_err-ratios-clause-accepted c = IfOk-from_err c.from_residual-in_err-ratios.result (λ _. first_refusal (blocks_told c.args.blocks.now) ≡ None) c.from_residual-in_err-ratios.ensures.0

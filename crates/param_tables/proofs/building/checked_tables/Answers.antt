@@ -4,17 +4,17 @@ use Rattle.std.proofs.lemmas.Result.{IfOk-from_err, err_from_is_err_and}
 use Rattle.model_sets.specs.Data.{Data}
 use Rattle.model_sets.specs.Members.{members}
 use Rattle.param_tables.specs.BlockData.{data_of, data_told}
-use Rattle.param_tables.specs.Built.{AreGivenAlike, AreSameData}
+use Rattle.param_tables.specs.Canonical.{canonical}
 use Rattle.param_tables.specs.InTurn.{first_of}
 use Rattle.param_tables.specs.Refusals.{first_refusal, storage, value_refusals}
 use Rattle.mathprog_data.specs.BlocksView.{blocks_told, params_told}
 use Rattle.param_tables.specs.Tables.{AreTablesFor}
 use Rattle.param_tables.specs.Stops.{IsStopDue}
-use Rattle.param_tables.specs.View.{facts_of}
+use Rattle.param_tables.specs.View.{data_by}
 use Rattle.param_tables.specs.declared.param_table.ParamTable.{ParamTable}
 use Rattle.param_tables.proofs.BuildLaws.{value_first, params_left, tables_told}
-use Rattle.param_tables.proofs.FactLaws.{tables_for_facts}
-use Rattle.param_tables.proofs.KeptLaws.{alike_facts_told, kept_of, same_facts_told, shapes_of}
+use Rattle.param_tables.proofs.FactLaws.{tables_for_data}
+use Rattle.param_tables.proofs.KeptLaws.{facts_told, kept_of, shapes_of}
 use Rattle.param_tables.proofs.TableOfLaws.{stop_first}
 use Rattle.param_tables.proofs.building.checked_tables.Goals as goal
 
@@ -57,27 +57,18 @@ returns-clause-kept c =
     let tables = c.in_ok-tables.tables.items in
     let blocks : c.as_slice.result.now ≡ c.args.blocks.now.params.items = c.as_slice.ensures.value in
     let for : AreTablesFor (data_of sets s.params) tables = subst (λ bs. AreTablesFor (data_of sets (params_told bs)) tables) blocks c.in_ok-tables.ensures.tables in
-    let tabled = tables_for_facts sets tables c.args.second c.count.ensures.rules (shapes_of (data_of sets s.params) tables for) in
+    let tabled = tables_for_data sets tables c.args.second c.count.ensures.rules (shapes_of (data_of sets s.params) tables for) in
     kept_of sets s.params tables c.args.second c.requires.second c.count.ensures.rules for c.requires.blocks.params.each
-    (c.in_ok-check_params.ensures.accepted (facts_of sets tables c.args.second) refl refl (same_slice (facts_of sets tables c.args.second) c.as_slice-2.result.now tables c.as_slice-2.ensures.value tabled))
+    (c.in_ok-check_params.ensures.accepted (data_by sets tables c.args.second) refl refl (same_slice (data_by sets tables c.args.second) c.as_slice-2.result.now tables c.as_slice-2.ensures.value tabled))
 
-pub returns-clause-same : goal.returns-clause-same
-returns-clause-same c =
+pub returns-clause-facts : goal.returns-clause-facts
+returns-clause-facts c =
     let s = blocks_told c.args.blocks.now in
     let sets = c.args.sets.now in
     let tables = c.in_ok-tables.tables.items in
     let blocks : c.as_slice.result.now ≡ c.args.blocks.now.params.items = c.as_slice.ensures.value in
     let for : AreTablesFor (data_of sets s.params) tables = subst (λ bs. AreTablesFor (data_of sets (params_told bs)) tables) blocks c.in_ok-tables.ensures.tables in
-    subst (λ all. AreSameData (facts_of sets tables c.args.second) (data_of all s.params)) c.requires.sets (same_facts_told sets s.params tables c.args.second c.requires.second c.count.ensures.rules for)
-
-pub returns-clause-alike : goal.returns-clause-alike
-returns-clause-alike c =
-    let s = blocks_told c.args.blocks.now in
-    let sets = c.args.sets.now in
-    let tables = c.in_ok-tables.tables.items in
-    let blocks : c.as_slice.result.now ≡ c.args.blocks.now.params.items = c.as_slice.ensures.value in
-    let for : AreTablesFor (data_of sets s.params) tables = subst (λ bs. AreTablesFor (data_of sets (params_told bs)) tables) blocks c.in_ok-tables.ensures.tables in
-    subst (λ all. AreGivenAlike (facts_of sets tables c.args.second) (data_of all s.params)) c.requires.sets (alike_facts_told sets s.params tables c.args.second c.count.ensures.rules for)
+    facts_told sets s.params tables c.args.second c.requires.second c.count.ensures.rules for ∙ ap (λ all. canonical (data_of all s.params)) c.requires.sets
 
 pub returns-clause-accepted : goal.returns-clause-accepted
 returns-clause-accepted c =
