@@ -1,12 +1,5 @@
 -- Lists of numbers that ascend, and what they contain.
-use Rattle.std.proofs.Common.{◌≡◌, ℕ, zero, suc, ◌+◌, ◌<◌, ◌≤◌, Bool, true, false, cond, List, [], ◌∷◌, ◌++◌, length, map, get_or, take, drop, refl, sym, ap, ◌∙◌, inl, inr, arith}
-use Rattle.std.specs.Prelude.{◌⊎◌, Contains, filter}
-use Rattle.std.specs.List.{range_with_len}
-use Rattle.std.specs.List.Sorted.{IsStrictlyIncreasing}
-use Rattle.std.proofs.lemmas.Bool.{cases_eq, false≢true}
-use Rattle.std.proofs.lemmas.List.{append-nil, get_or-map, get_or_default, length-map, map-id, take-append-drop, take_at}
-use Rattle.std.proofs.lemmas.List.Elements.{filter-append}
-use Rattle.std.proofs.lemmas.List.FromFn.{filter_of_map_range_with_len_more, map-range_with_len_more, take-map-range_with_len}
+use Rattle.param_tables.proofs.Common.{◌≡◌, ℕ, zero, suc, ◌+◌, ◌<◌, ◌≤◌, Bool, true, false, cond, List, [], ◌∷◌, ◌++◌, length, map, get_or, take, drop, refl, sym, ap, ◌∙◌, inl, inr, arith, ◌⊎◌, Contains, filter, range_with_len, IsStrictlyIncreasing, cases_eq, false≢true, append-nil, get_or-map, get_or_default, length-map, map-id, take-append-drop, take_at, filter-append, filter_of_map_range_with_len_more, map-range_with_len_more, take-map-range_with_len}
 use Rattle.param_tables.proofs.EntryLaws.{first_below, later}
 
 -- ---- members

@@ -1,16 +1,5 @@
 -- The first refusal among those of STORAGE, of the values and of the parameters.
-use Rattle.std.proofs.Common.{◌≡◌, ◌<◌, ◌≤◌, List, [], ◌∷◌, ◌++◌, Some, length, sym, ap, ◌∙◌, subst}
-use Rattle.std.specs.Prelude.{if◌then◌else◌}
-use Rattle.std.specs.List.{flat_map}
-use Rattle.std.proofs.lemmas.Bool.{lt-ltb, le-ltb}
-use Rattle.model_sets.specs.Data.{Data, used_params}
-use Rattle.model_sets.specs.Members.{SetLists, members}
-use Rattle.param_tables.specs.BlockData.{data_of, data_told, set_lists}
-use Rattle.param_tables.specs.InTurn.{first_of}
-use Rattle.param_tables.specs.Refusals.{Refusal, StorageMember, first_refusal, param_refusals, storage, storage_refusals, value_refusals}
-use Rattle.mathprog_data.specs.Meaning.{ParamBlock, Blocks}
-use Rattle.param_tables.specs.Tables.{AreTablesFor}
-use Rattle.param_tables.specs.declared.param_table.ParamTable.{ParamTable}
+use Rattle.param_tables.proofs.Common.{◌≡◌, ◌<◌, ◌≤◌, List, [], ◌∷◌, ◌++◌, Some, length, sym, ap, ◌∙◌, subst, if◌then◌else◌, flat_map, lt-ltb, le-ltb, Data, used_params, SetLists, members, data_of, data_told, set_lists, first_of, Refusal, StorageMember, first_refusal, param_refusals, storage, storage_refusals, value_refusals, ParamBlock, Blocks, AreTablesFor, ParamTable}
 use Rattle.param_tables.proofs.TurnLaws.{first_of-found}
 
 in_order : SetLists → Data → List ParamBlock → List Refusal

@@ -1,9 +1,5 @@
 -- Data in canonical form, computed on worked examples and near misses.
-use Rattle.std.proofs.Common.{◌≡◌, ◌∷◌, [], ℕ, List, false, Some, refl, ap, pos, negsuc}
-use Rattle.std.specs.Prelude.{codes, ℤ}
-use Rattle.model_sets.specs.Data.{Data, Default, Given, given_at}
-use Rattle.model_sets.specs.declared.param_numbers.TheConstants.{CONVERSIONLS, DISCOUNT_RATE_IDV, MODEL_PERIOD_EMISSION_LIMIT, TRADE_ROUTE}
-use Rattle.param_tables.specs.Canonical.{canonical, defaults_in_order, given_in_order, given_value, with_value_at}
+use Rattle.param_tables.proofs.Common.{◌≡◌, ◌∷◌, [], ℕ, List, false, Some, refl, ap, pos, negsuc, codes, ℤ, Data, Default, Given, given_at, CONVERSIONLS, DISCOUNT_RATE_IDV, MODEL_PERIOD_EMISSION_LIMIT, TRADE_ROUTE, canonical, defaults_in_order, given_in_order, given_value, with_value_at}
 
 -- ---- one region with two emissions: the limits on these, and nothing else
 

@@ -1,19 +1,5 @@
 -- Data in canonical form: what they give at each index, and when two are equal.
-use Rattle.std.proofs.Common.{◌≡◌, ℕ, zero, ◌+◌, ◌-◌, ◌<◌, ◌≤◌, Bool, true, false, cond, ◌&&◌, ◌||◌, List, [], ◌∷◌, ◌++◌, Option, None, Some, length, nat_eq, get_or, refl, sym, ap, ap₂, ◌∙◌, subst, inl, inr, arith}
-use Rattle.std.specs.Prelude.{ℤ, Contains, filter, is_some}
-use Rattle.std.specs.Cmp.Lexicographic.{pointwise}
-use Rattle.std.specs.List.{cons_option, filter_map, find, flat_map, list_any, range_with_len}
-use Rattle.std.specs.Option.{option_map, option_or}
-use Rattle.std.specs.Str.{bytes_eq}
-use Rattle.std.proofs.lemmas.Bool.{cases_eq, eq-eqb, eqb-true, ne_eqb}
-use Rattle.std.proofs.lemmas.List.FromFn.{get_or-range_with_len, length-range_with_len}
-use Rattle.std.proofs.lemmas.List.Folds.{find-append}
-use Rattle.model_sets.specs.Data.{AreSameData, Data, Default, Given, IsUsedParam, default_of, given_at, indices_of, is_given_at, used_params, value_at, value_of_none}
-use Rattle.model_sets.specs.Members.{SetLists}
-use Rattle.model_sets.specs.Params.{is_used, param_at, param_count}
-use Rattle.param_tables.specs.Canonical.{canonical, defaults_in_order, given_in_order, given_value, values_for}
-use Rattle.param_tables.specs.Built.{AreGivenAlike}
-use Rattle.param_tables.specs.SameData.{GiveTheSame}
+use Rattle.param_tables.proofs.Common.{◌≡◌, ℕ, zero, ◌+◌, ◌-◌, ◌<◌, ◌≤◌, Bool, true, false, cond, ◌&&◌, ◌||◌, List, [], ◌∷◌, ◌++◌, Option, None, Some, length, nat_eq, get_or, refl, sym, ap, ap₂, ◌∙◌, subst, inl, inr, arith, ℤ, Contains, filter, is_some, pointwise, cons_option, filter_map, find, flat_map, list_any, range_with_len, option_map, option_or, bytes_eq, cases_eq, eq-eqb, eqb-true, ne_eqb, get_or-range_with_len, length-range_with_len, find-append, AreSameData, Data, Default, Given, IsUsedParam, default_of, given_at, indices_of, is_given_at, used_params, value_at, value_of_none, SetLists, is_used, param_at, param_count, canonical, defaults_in_order, given_in_order, given_value, values_for, AreGivenAlike, GiveTheSame}
 use Rattle.param_tables.proofs.AscendingLaws.{contains_cases, contains_filter, contains_from_filter, contains_later}
 use Rattle.param_tables.proofs.DataLaws.{option_or-map}
 use Rattle.param_tables.proofs.GivenLaws.{names_same}

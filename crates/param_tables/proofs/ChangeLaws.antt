@@ -1,27 +1,6 @@
 -- Tables with another value at one place mean the data with that value at one index.
 use Rattle.std.proofs.Common.{◌≡◌, ◌≢◌, ℕ, ◌+◌, ◌-◌, ◌<◌, ◌≤◌, ◌∷◌, ◌&&◌, Bool, true, false, cond, List, [], ℤ, pos, Option, Some, None, length, drop, nat_eq, get_or, refl, sym, ap, ap₂, ◌∙◌, subst, inl, inr, arith, All}
-use Rattle.std.specs.Cmp.Lexicographic.{pointwise}
-use Rattle.std.specs.List.{find, zip}
-use Rattle.std.specs.List.Sorted.{IsStrictlyIncreasing}
-use Rattle.std.specs.Option.{option_map, option_or}
-use Rattle.std.specs.Prelude.{◌⊎◌, Contains, IsSomeAnd, if◌then◌else◌}
-use Rattle.std.specs.Str.{bytes_eq}
-use Rattle.std.proofs.lemmas.Bool.{cases_eq, cases_lt, eq-eqb, eqb-true, ne_eqb}
-use Rattle.std.proofs.lemmas.List.{drop_all, drop_more, get_or_default}
-use Rattle.std.proofs.lemmas.Option.{slice_get-get_or}
-use Rattle.std.proofs.lemmas.Slice.Zip.{get_or-zip, length-zip}
-use Rattle.model_sets.specs.Data.{Data, Given, IsUsedParam, default_of, given_at, indices_of, is_given_at, value_at, value_of_none}
-use Rattle.model_sets.specs.Members.{SetLists}
-use Rattle.model_sets.specs.Params.{range_of, subscript_sets}
-use Rattle.model_sets.proofs.ParamLaws.{subscripts_are_sets}
-use Rattle.param_tables.specs.Built.{AreComplete, IsValueIn}
-use Rattle.param_tables.specs.Canonical.{given_value, with_given, with_value_at}
-use Rattle.param_tables.specs.Changed.{AreDataWith}
-use Rattle.param_tables.specs.ChangedTables.{AreTablesWith, IsCopyOf, IsTableWith}
-use Rattle.param_tables.specs.SameData.{GiveTheSame}
-use Rattle.param_tables.specs.Tables.{AreTablesFor, HaveShapes, IsTable, IsUsable, entries_of, given_in}
-use Rattle.param_tables.specs.View.{AreKept, data_by, facts_of}
-use Rattle.param_tables.specs.declared.param_table.ParamTable.{ParamTable}
+use Rattle.param_tables.proofs.Common.{pointwise, find, zip, IsStrictlyIncreasing, option_map, option_or, ◌⊎◌, Contains, IsSomeAnd, if◌then◌else◌, bytes_eq, cases_eq, cases_lt, eq-eqb, eqb-true, ne_eqb, drop_all, drop_more, get_or_default, slice_get-get_or, get_or-zip, length-zip, Data, Given, IsUsedParam, default_of, given_at, indices_of, is_given_at, value_at, value_of_none, SetLists, range_of, subscript_sets, subscripts_are_sets, AreComplete, IsValueIn, given_value, with_given, with_value_at, AreDataWith, AreTablesWith, IsCopyOf, IsTableWith, GiveTheSame, AreTablesFor, HaveShapes, IsTable, IsUsable, entries_of, given_in, AreKept, data_by, facts_of, ParamTable}
 use Rattle.param_tables.proofs.CanonicalLaws.{canonical_one, default_canonical, given_canonical, value_canonical}
 use Rattle.param_tables.proofs.EntryLaws.{given_at_place, given_none}
 use Rattle.param_tables.proofs.FactLaws.{tables_for_data}

@@ -1,13 +1,5 @@
 -- Data with another value at one index, on a worked example and on near misses.
-use Rattle.std.proofs.Common.{◌≡◌, ◌∷◌, [], ℕ, List, Bool, true, false, Some, None, Option, refl, sym, ap, pos, negsuc, arith, true≢false}
-use Rattle.std.specs.Prelude.{codes, ℤ}
-use Rattle.std.specs.Cmp.Lexicographic.{pointwise}
-use Rattle.std.specs.Ordering.{int_eq}
-use Rattle.std.specs.Str.{bytes_eq}
-use Rattle.model_sets.specs.Data.{Data, Given, IsUsedParam, indices_of, value_at}
-use Rattle.model_sets.specs.declared.param_numbers.TheConstants.{MODEL_PERIOD_EMISSION_LIMIT}
-use Rattle.param_tables.specs.Canonical.{defaults_in_order, given_in_order, with_value_at}
-use Rattle.param_tables.specs.Changed.{AreDataWith}
+use Rattle.param_tables.proofs.Common.{◌≡◌, ◌∷◌, [], ℕ, List, Bool, true, false, Some, None, Option, refl, sym, ap, pos, negsuc, arith, true≢false, codes, ℤ, pointwise, int_eq, bytes_eq, Data, Given, IsUsedParam, indices_of, value_at, MODEL_PERIOD_EMISSION_LIMIT, defaults_in_order, given_in_order, with_value_at, AreDataWith}
 use Rattle.param_tables.proofs.ChangeLaws.{data_with}
 use Rattle.param_tables.proofs.GivenLaws.{names_same}
 

@@ -1,15 +1,6 @@
 -- No member of a set that keeps the rules is refused as a member of its copy, and a copy with the same members is the same.
-use Rattle.std.proofs.Common.{◌≡◌, ℕ, ◌<◌, Bool, true, false, cond, not, ◌&&◌, List, [], None, Some, length, nat_eq, get_or, take, refl, sym, ap, ◌∙◌, true≢false, arith}
-use Rattle.std.specs.Prelude.{nat_le, if◌then◌else◌}
-use Rattle.std.specs.Str.{bytes_eq}
-use Rattle.std.proofs.lemmas.Bool.{eqb-true, lt-leb}
-use Rattle.std.proofs.lemmas.List.{get_or-take, get_or_default, length-take}
-use Rattle.std.proofs.lemmas.List.Folds.{list_any_none}
-use Rattle.std.proofs.lemmas.Map.Keys.{apart_from_distinct}
-use Rattle.std.proofs.lemmas.Slice.Eq.{bytes_eq-Decides}
+use Rattle.param_tables.proofs.Common.{◌≡◌, ℕ, ◌<◌, Bool, true, false, cond, not, ◌&&◌, List, [], None, Some, length, nat_eq, get_or, take, refl, sym, ap, ◌∙◌, true≢false, arith, nat_le, if◌then◌else◌, bytes_eq, eqb-true, lt-leb, get_or-take, get_or_default, length-take, list_any_none, apart_from_distinct, bytes_eq-Decides, limit_of, year, is_year}
 use Rattle.model_sets.specs.Members.{SetLists, KeepsRules, bad_year, first_refusal, is_among, members, too_many, twice_in_set}
-use Rattle.model_sets.specs.Names.{limit_of, year}
-use Rattle.model_sets.specs.Years.{is_year}
 
 turned : (x y : List ℕ) → bytes_eq y x ≡ false → bytes_eq x y ≡ false
 turned x y apart = go (bytes_eq x y) refl

@@ -1,22 +1,5 @@
 -- The data of statements, statement by statement.
-use Rattle.std.proofs.Common.{◌≡◌, ◌≢◌, ℕ, zero, suc, ◌+◌, ◌<◌, ◌≤◌, Bool, true, false, cond, ◌&&◌, List, [], ◌∷◌, ◌++◌, Option, None, Some, length, map, nat_eq, get_or, take, refl, sym, ap, ap₂, ◌∙◌, subst, inl, inr, arith, All}
-use Rattle.std.specs.Prelude.{ℤ, if◌then◌else◌}
-use Rattle.std.specs.Cmp.Lexicographic.{pointwise}
-use Rattle.std.specs.List.{IsDistinct, cons_option, filter_map, find, flat_map}
-use Rattle.std.specs.Option.{option_map, option_or}
-use Rattle.std.specs.Str.{bytes_eq}
-use Rattle.std.proofs.lemmas.Bool.{cases_eq, eq-eqb, ne_eqb, eqb-false}
-use Rattle.std.proofs.lemmas.List.{append-nil, get_or-map, get_or-take, length-map, length-take, take_all, take_more}
-use Rattle.std.proofs.lemmas.List.Concat.{flat_map-append}
-use Rattle.std.proofs.lemmas.List.Elements.{filter_map-append}
-use Rattle.std.proofs.lemmas.List.Folds.{find-append}
-use Rattle.std.proofs.lemmas.Map.Keys.{apart_from_distinct}
-use Rattle.model_sets.specs.Data.{Data, Default, Given, default_of, given_at, indices_of, is_given_at, value_at, value_of_none}
-use Rattle.model_sets.specs.Members.{SetLists}
-use Rattle.param_tables.specs.BlockData.{data_of, given_of, givens_of, stated_default}
-use Rattle.mathprog_data.specs.Meaning.{ParamBlock, GivenValue}
-use Rattle.param_tables.specs.Tables.{IsTableFor, given_among, table_value}
-use Rattle.param_tables.specs.declared.param_table.ParamTable.{ParamTable}
+use Rattle.param_tables.proofs.Common.{◌≡◌, ◌≢◌, ℕ, zero, suc, ◌+◌, ◌<◌, ◌≤◌, Bool, true, false, cond, ◌&&◌, List, [], ◌∷◌, ◌++◌, Option, None, Some, length, map, nat_eq, get_or, take, refl, sym, ap, ap₂, ◌∙◌, subst, inl, inr, arith, All, ℤ, if◌then◌else◌, pointwise, IsDistinct, cons_option, filter_map, find, flat_map, option_map, option_or, bytes_eq, cases_eq, eq-eqb, ne_eqb, eqb-false, append-nil, get_or-map, get_or-take, length-map, length-take, take_all, take_more, flat_map-append, filter_map-append, find-append, apart_from_distinct, Data, Default, Given, default_of, given_at, indices_of, is_given_at, value_at, value_of_none, SetLists, data_of, given_of, givens_of, stated_default, ParamBlock, GivenValue, IsTableFor, given_among, table_value, ParamTable}
 
 option_or-none : {X : Type 0} (o : Option X) → option_or o None ≡ o
 option_or-none None = refl

@@ -1,21 +1,9 @@
 -- Look-ups in a list of places that ascend, each with its value.
-use Rattle.std.proofs.Common.{◌≡◌, ◌≢◌, ℕ, zero, suc, ◌+◌, ◌<◌, ◌≤◌, Bool, true, false, cond, nat_eq, List, [], ◌∷◌, None, Some, length, map, get_or, refl, sym, ap, ◌∙◌, subst, inl, inr, arith}
+use Rattle.param_tables.proofs.Common.{◌≡◌, ◌≢◌, ℕ, zero, suc, ◌+◌, ◌<◌, ◌≤◌, Bool, true, false, cond, nat_eq, List, [], ◌∷◌, None, Some, length, map, get_or, refl, sym, ap, ◌∙◌, subst, inl, inr, arith, option_and_then, option_copied, slice_get_past, slice_get-get_or, BTreeMap, get, keys, values, nat_cmp, is_eq, Less, Equal, Greater, searched, below_from_sorted, sorted_from_strictly_increasing, zip, slice_get, IsBinarySearchResult, IsStrictlyIncreasing, lookup, cases_eq, cases_lt, eq-eqb, lt-ltb, le-ltb, ne_eqb, given_in}
 use Rattle.std.specs.Prelude.{ℤ, Option, Result, Ok, Err}
-use Rattle.std.specs.Option.{option_and_then, option_copied}
 use Rattle.std.specs.Slice.{IsItemAt}
 use Rattle.std.specs.Borrow.{Bor}
-use Rattle.std.proofs.lemmas.Option.{slice_get_past, slice_get-get_or}
-use Rattle.std.specs.BTreeMap.{BTreeMap, get, keys, values}
-use Rattle.std.specs.Ordering.{nat_cmp, is_eq}
-use Rattle.std.specs.declared.cmp.Ordering.TheVariants.{Less, Equal, Greater}
 use Rattle.std.specs.Result.{result_ok}
-use Rattle.std.proofs.lemmas.List.Sorted.{searched}
-use Rattle.std.proofs.lemmas.Map.Keys.{below_from_sorted, sorted_from_strictly_increasing}
-use Rattle.std.specs.List.{zip, slice_get}
-use Rattle.std.specs.List.Sorted.{IsBinarySearchResult, IsStrictlyIncreasing}
-use Rattle.std.specs.Map.{lookup}
-use Rattle.std.proofs.lemmas.Bool.{cases_eq, cases_lt, eq-eqb, lt-ltb, le-ltb, ne_eqb}
-use Rattle.param_tables.specs.Tables.{given_in}
 
 -- no place is this one
 pub given_none : (places : List ℕ) (values : List ℤ) (place : ℕ) → ((k : ℕ) → k < length places → get_or places k 0 ≢ place) → given_in (zip places values) place ≡ None

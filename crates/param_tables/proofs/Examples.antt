@@ -1,24 +1,7 @@
 -- The definitions computed on worked examples, and on near misses.
-use Rattle.std.proofs.Common.{◌≡◌, ℕ, true, false, ◌∷◌, ◌++◌, [], List, Some, None, Option, refl, map, pos, negsuc, set, arith}
+use Rattle.param_tables.proofs.Common.{◌≡◌, ℕ, true, false, ◌∷◌, ◌++◌, [], List, Some, None, Option, refl, map, pos, negsuc, set, arith, false≢true, Mark, SetFault, value_at, data_told, set_lists, AreGivenAlike, is_given, canonical, defaults_in_order, given_in_order, names_at, whole, set_word, param_word, commodity, ratio_param, Input, Output, Emission, Refusal, storage, StorageMember, UnknownName, GivenBefore, AtIndex, first_refusal, first_set_refusal, Blocks, SetBlock, ParamBlock, GivenValue, NoValue, Negative, NotWhole, OutOfRange, WholeUnits}
 use Rattle.std.specs.Prelude.{codes, ℤ, ◌-◌}
 use Rattle.std.specs.Fmt.{digits}
-use Rattle.std.proofs.lemmas.Bool.{false≢true}
-use Rattle.mathprog_data.specs.declared.blocks.Mark.{Mark}
-use Rattle.model_sets.specs.declared.fault.SetFault.{SetFault}
-use Rattle.model_sets.specs.Data.{value_at}
-use Rattle.param_tables.specs.BlockData.{data_told, set_lists}
-use Rattle.param_tables.specs.Built.{AreGivenAlike, is_given}
-use Rattle.param_tables.specs.Canonical.{canonical, defaults_in_order, given_in_order}
-use Rattle.param_tables.specs.Positions.{names_at}
-use Rattle.param_tables.specs.Ranges.{whole}
-use Rattle.model_sets.specs.Names.{set_word}
-use Rattle.model_sets.specs.Params.{param_word}
-use Rattle.param_tables.specs.Ratios.{commodity, ratio_param}
-use Rattle.param_tables.specs.declared.ratios.ActivityRatio.TheVariants.{Input, Output, Emission}
-use Rattle.param_tables.specs.Refusals.{Refusal, storage, StorageMember, UnknownName, GivenBefore, AtIndex, first_refusal}
-use Rattle.param_tables.specs.SetRefusals.{first_set_refusal}
-use Rattle.mathprog_data.specs.Meaning.{Blocks, SetBlock, ParamBlock, GivenValue}
-use Rattle.param_tables.specs.declared.fault.CellFault.TheVariants.{NoValue, Negative, NotWhole, OutOfRange, WholeUnits}
 
 -- ---- numbers
 

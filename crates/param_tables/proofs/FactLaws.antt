@@ -1,27 +1,8 @@
 -- The data that tables mean are those of statements that say the same.
-use Rattle.std.proofs.Common.{◌≡◌, ℕ, suc, ◌+◌, ◌-◌, ◌<◌, ◌≤◌, Bool, true, false, cond, List, [], ◌∷◌, ◌++◌, Some, length, map, nat_eq, get_or, refl, sym, ap, ◌∙◌, subst, inl, inr, arith, All}
-use Rattle.std.specs.Prelude.{ℤ}
-use Rattle.std.specs.Cmp.Lexicographic.{pointwise}
-use Rattle.std.specs.List.{IsDistinct, cons_option, enumerate_from, filter_map, find, flat_map, range_with_len, zip}
-use Rattle.std.specs.Option.{option_map}
-use Rattle.std.specs.Str.{bytes_eq}
-use Rattle.std.proofs.lemmas.Bool.{cases_eq, eq-eqb, ne_eqb}
-use Rattle.std.proofs.lemmas.List.{get_or-map, length-map}
-use Rattle.std.proofs.lemmas.List.FromFn.{get_or-enumerate_from, get_or-range_with_len, length-enumerate_from, length-range_with_len}
-use Rattle.std.proofs.lemmas.Map.Keys.{IsDistinct-from_apart}
-use Rattle.mathprog_data.specs.declared.blocks.Mark.{Mark}
-use Rattle.model_sets.specs.Data.{Default, default_of, given_at, indices_of, is_given_at}
-use Rattle.model_sets.specs.Members.{SetLists, AreSets}
-use Rattle.model_sets.specs.Params.{IsParam, param_count, subscript_sets}
-use Rattle.param_tables.specs.BlockData.{data_of, given_of, givens_of, stated_default}
-use Rattle.mathprog_data.specs.Meaning.{ParamBlock, GivenValue}
-use Rattle.param_tables.specs.Tables.{AreTablesFor, HaveShapes, IsUsable, IsTable, IsTableFor, entries_of, given_among, given_in}
-use Rattle.param_tables.specs.View.{default_by, data_by, given_by}
-use Rattle.param_tables.specs.declared.param_table.ParamTable.{ParamTable}
+use Rattle.param_tables.proofs.Common.{◌≡◌, ℕ, suc, ◌+◌, ◌-◌, ◌<◌, ◌≤◌, Bool, true, false, cond, List, [], ◌∷◌, ◌++◌, Some, length, map, nat_eq, get_or, refl, sym, ap, ◌∙◌, subst, inl, inr, arith, All, ℤ, pointwise, IsDistinct, cons_option, enumerate_from, filter_map, find, flat_map, range_with_len, zip, option_map, bytes_eq, cases_eq, eq-eqb, ne_eqb, get_or-map, length-map, get_or-enumerate_from, get_or-range_with_len, length-enumerate_from, length-range_with_len, IsDistinct-from_apart, Mark, Default, default_of, given_at, indices_of, is_given_at, SetLists, AreSets, IsParam, param_count, subscript_sets, data_of, given_of, givens_of, stated_default, ParamBlock, GivenValue, AreTablesFor, HaveShapes, IsUsable, IsTable, IsTableFor, entries_of, given_among, given_in, default_by, data_by, given_by, ParamTable, subscripts_are_sets}
 use Rattle.param_tables.proofs.DataLaws.{default_of_statement, given_of_statement}
 use Rattle.param_tables.proofs.GivenLaws.{names_same}
 use Rattle.param_tables.proofs.IndexLaws.{HaveApart, indices_apart, names_apart_from}
-use Rattle.model_sets.proofs.ParamLaws.{subscripts_are_sets}
 
 nowhere : Mark
 nowhere = record { line = 0; column = 0 }

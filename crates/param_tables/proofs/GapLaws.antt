@@ -1,16 +1,5 @@
 -- The first fault among places that ascend: in a gap between them, or at one of them.
-use Rattle.std.proofs.Common.{◌≡◌, ℕ, ◌+◌, ◌<◌, ◌≤◌, Bool, true, false, List, Option, None, Some, length, get_or, refl, sym, ap, ◌∙◌, inl, inr, arith}
-use Rattle.std.specs.Prelude.{ℤ, nat_lt, if◌then◌else◌}
-use Rattle.std.specs.List.{slice_get, zip}
-use Rattle.std.specs.List.Sorted.{IsStrictlyIncreasing}
-use Rattle.std.specs.Option.{option_map}
-use Rattle.std.proofs.lemmas.Bool.{cases_lt, ltb-true, lt-ltb}
-use Rattle.std.proofs.lemmas.Map.Keys.{below_from_sorted, sorted_from_strictly_increasing}
-use Rattle.param_tables.specs.Ranges.{range_fault}
-use Rattle.param_tables.specs.Tables.{IsFirstFault, fault_before, given_in, place_fault}
-use Rattle.param_tables.specs.declared.fault.CellFault.{CellFault}
-use Rattle.param_tables.specs.declared.first_fault.PlaceFault.{PlaceFault}
-use Rattle.model_sets.specs.declared.params.Range.{Range}
+use Rattle.param_tables.proofs.Common.{◌≡◌, ℕ, ◌+◌, ◌<◌, ◌≤◌, Bool, true, false, List, Option, None, Some, length, get_or, refl, sym, ap, ◌∙◌, inl, inr, arith, ℤ, nat_lt, if◌then◌else◌, slice_get, zip, IsStrictlyIncreasing, option_map, cases_lt, ltb-true, lt-ltb, below_from_sorted, sorted_from_strictly_increasing, range_fault, IsFirstFault, fault_before, given_in, place_fault, CellFault, PlaceFault, Range}
 use Rattle.param_tables.proofs.EntryLaws.{given_none, given_at_place, rising_all}
 
 -- what a fault before an end says

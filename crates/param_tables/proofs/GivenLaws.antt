@@ -1,24 +1,8 @@
 -- The values that were given, value by value.
-use Rattle.std.proofs.Common.{◌≡◌, ◌≢◌, ℕ, ◌+◌, ◌<◌, ◌≤◌, Bool, true, false, cond, not, ◌||◌, List, [], ◌∷◌, ◌++◌, Option, None, Some, length, nat_eq, get_or, take, refl, sym, ap, ◌∙◌, inl, inr, arith}
+use Rattle.param_tables.proofs.Common.{◌≡◌, ◌≢◌, ℕ, ◌+◌, ◌<◌, ◌≤◌, Bool, true, false, cond, not, ◌||◌, List, [], ◌∷◌, ◌++◌, Option, None, Some, length, nat_eq, get_or, take, refl, sym, ap, ◌∙◌, inl, inr, arith, pointwise, pointwise_decides, find, list_any, option_map, option_or, bytes_eq, cases_eq, eq-eqb, ne_eqb, false≢true, get_or_default, take_more, find-append, bytes_eq-Decides, indices_of, SetLists, IsParam, subscript_sets, IsPlaceOf, Refusal, UnknownName, GivenBefore, is_given_among, names_members, value_refusal, GivenValue, AreGiven, given_among, subscripts_are_sets}
 use Rattle.std.specs.Prelude.{ℤ, pos, is_some, if◌then◌else◌}
 use Rattle.std.specs.Bool.{Decides}
-use Rattle.std.specs.Cmp.Lexicographic.{pointwise, pointwise_decides}
-use Rattle.std.specs.List.{find, list_any}
-use Rattle.std.specs.Option.{option_map, option_or}
-use Rattle.std.specs.Str.{bytes_eq}
-use Rattle.std.proofs.lemmas.Bool.{cases_eq, eq-eqb, ne_eqb, false≢true}
-use Rattle.std.proofs.lemmas.List.{get_or_default, take_more}
-use Rattle.std.proofs.lemmas.List.Folds.{find-append}
-use Rattle.std.proofs.lemmas.Slice.Eq.{bytes_eq-Decides}
-use Rattle.model_sets.specs.Data.{indices_of}
-use Rattle.model_sets.specs.Members.{SetLists}
-use Rattle.model_sets.specs.Params.{IsParam, subscript_sets}
-use Rattle.param_tables.specs.Places.{IsPlaceOf}
-use Rattle.param_tables.specs.Refusals.{Refusal, UnknownName, GivenBefore, is_given_among, names_members, value_refusal}
-use Rattle.mathprog_data.specs.Meaning.{GivenValue}
-use Rattle.param_tables.specs.Tables.{AreGiven, given_among}
 use Rattle.param_tables.proofs.IndexLaws.{HaveApart, indices_apart}
-use Rattle.model_sets.proofs.ParamLaws.{subscripts_are_sets}
 
 -- two indices are one
 pub names_same : (xs ys : List (List ℕ)) → Decides (pointwise bytes_eq xs ys) (xs ≡ ys)
@@ -80,10 +64,6 @@ given_among-push values v index = ap (option_map (λ w. w.value)) (find-append (
 option_or-none : {X : Type 0} (o : Option X) → option_or o None ≡ o
 option_or-none None = refl
 option_or-none (Some x) = refl
-
--- nothing is given before the first value
-pub given_none_yet : (sets : SetLists) (param : ℕ) (found : ℕ → Option ℤ) → ((place : ℕ) → found place ≡ None) → AreGiven sets param [] found
-given_none_yet sets param found none = record { inside = λ place below. none place; outside = λ place above. none place }
 
 module _ (sets : SetLists) (apart : HaveApart sets) (param : ℕ) (listed : IsParam param) (values : List GivenValue) (i : ℕ) (v : GivenValue) (below : i < length values) (is : v ≡ get_or values i v) (place : ℕ) (at : IsPlaceOf sets (subscript_sets param) v.index place) (found : ℕ → Option ℤ) (so_far : AreGiven sets param (take i values) found) where
   -- the look-up at the value's place finds what was given at its index

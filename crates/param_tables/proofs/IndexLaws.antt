@@ -1,17 +1,5 @@
 -- The list of all indices over some sets: the index at each place, one more subscript at the end, and that no index stands twice.
-use Rattle.std.proofs.Common.{◌≡◌, ℕ, zero, suc, ◌+◌, ◌-◌, ◌*◌, ◌/◌, ◌%◌, ◌<◌, ◌≤◌, List, [], ◌∷◌, ◌++◌, length, map, get_or, refl, sym, ap, ◌∙◌, arith, inl, inr, All}
-use Rattle.std.specs.List.{flat_map, IsDistinct}
-use Rattle.std.specs.Prelude.{slice_index_or}
-use Rattle.std.proofs.lemmas.List.{append-nil, get_or_append_left, get_or-append_right, length-append, map-append, length-map, get_or-map}
-use Rattle.std.proofs.lemmas.List.Concat.{flat_map-append, flat_map_single}
-use Rattle.std.proofs.lemmas.List.Folds.{flat_map-map}
-use Rattle.model_sets.specs.Data.{indices_over}
-use Rattle.model_sets.specs.Names.{IsSet}
-use Rattle.model_sets.specs.Members.{SetLists, members, AreSets}
-use Rattle.std.specs.Str.{bytes_eq}
-use Rattle.std.proofs.lemmas.Bool.{cases_eq, cases_lt, false≢true}
-use Rattle.std.proofs.lemmas.Map.Keys.{apart_from_distinct}
-use Rattle.std.proofs.lemmas.Slice.Eq.{bytes_eq-Decides}
+use Rattle.param_tables.proofs.Common.{◌≡◌, ℕ, zero, suc, ◌+◌, ◌-◌, ◌*◌, ◌/◌, ◌%◌, ◌<◌, ◌≤◌, List, [], ◌∷◌, ◌++◌, length, map, get_or, refl, sym, ap, ◌∙◌, arith, inl, inr, All, flat_map, IsDistinct, slice_index_or, append-nil, get_or_append_left, get_or-append_right, length-append, map-append, length-map, get_or-map, flat_map-append, flat_map_single, flat_map-map, indices_over, IsSet, SetLists, members, AreSets, bytes_eq, cases_eq, cases_lt, false≢true, apart_from_distinct, bytes_eq-Decides}
 
 -- ---- lists in a row
 

@@ -1,25 +1,5 @@
 -- Tables that no check refuses are complete data, those that the statements give.
-use Rattle.std.proofs.Common.{◌≡◌, ℕ, zero, suc, ◌-◌, ◌<◌, Bool, true, false, cond, List, [], ◌∷◌, ◌++◌, Option, None, Some, pos, length, map, nat_eq, get_or, refl, sym, ap, ap₂, ◌∙◌, subst, arith, All}
-use Rattle.std.specs.Prelude.{ℤ, Contains, IfSome, IsSomeAnd, if◌then◌else◌}
-use Rattle.std.specs.List.{cons_option, filter_map, find, flat_map, range_with_len}
-use Rattle.std.specs.Option.{option_map, option_or}
-use Rattle.std.proofs.lemmas.List.{get_or_default}
-use Rattle.std.proofs.lemmas.List.FromFn.{get_or-range_with_len, length-range_with_len}
-use Rattle.std.proofs.lemmas.List.Folds.{find-append}
-use Rattle.model_sets.specs.Data.{Data, Default, Given, IsUsedParam, used_params, default_of, given_at, indices_of, is_given_at, unit_capacity, value_at, value_of_none}
-use Rattle.model_sets.specs.Members.{SetLists, AreSets}
-use Rattle.model_sets.specs.Params.{param_count, range_of}
-use Rattle.param_tables.specs.BlockData.{data_of, given_of, givens_of, has_second, stated_default}
-use Rattle.param_tables.specs.Built.{AreComplete, IsValueIn}
-use Rattle.param_tables.specs.Canonical.{canonical}
-use Rattle.param_tables.specs.Refusals.{AtIndex, fault_at, param_refusals, value_fault}
-use Rattle.mathprog_data.specs.Meaning.{ParamBlock, GivenValue}
-use Rattle.param_tables.specs.Tables.{AreTablesFor, HaveShapes}
-use Rattle.param_tables.specs.SameData.{GiveTheSame}
-use Rattle.param_tables.specs.View.{AreKept, data_by, facts_of}
-use Rattle.mathprog_data.specs.WellFormed.{IsWithinLimit, IsParamBlock}
-use Rattle.param_tables.specs.declared.param_table.ParamTable.{ParamTable}
-use Rattle.model_sets.specs.declared.params.Range.{Range}
+use Rattle.param_tables.proofs.Common.{◌≡◌, ℕ, zero, suc, ◌-◌, ◌<◌, Bool, true, false, cond, List, [], ◌∷◌, ◌++◌, Option, None, Some, pos, length, map, nat_eq, get_or, refl, sym, ap, ap₂, ◌∙◌, subst, arith, All, ℤ, Contains, IfSome, IsSomeAnd, if◌then◌else◌, cons_option, filter_map, find, flat_map, range_with_len, option_map, option_or, get_or_default, get_or-range_with_len, length-range_with_len, find-append, Data, Default, Given, IsUsedParam, used_params, default_of, given_at, indices_of, is_given_at, unit_capacity, value_at, value_of_none, SetLists, AreSets, param_count, range_of, data_of, given_of, givens_of, has_second, stated_default, AreComplete, IsValueIn, canonical, AtIndex, fault_at, param_refusals, value_fault, ParamBlock, GivenValue, AreTablesFor, HaveShapes, GiveTheSame, AreKept, data_by, facts_of, IsWithinLimit, IsParamBlock, ParamTable, Range}
 use Rattle.param_tables.proofs.CanonicalLaws.{canonical_one, value_canonical}
 use Rattle.param_tables.proofs.FactLaws.{tables_for_data}
 use Rattle.param_tables.proofs.ParamLaws.{if_used, refusals_if_used, used_each}

@@ -1,3 +1,4 @@
+mod Common
 pub mod AscendingLaws
 pub mod BuildLaws
 mod CanonicalExamples

@@ -1,19 +1,6 @@
 -- The places at which a value is given that isn't 0, in order and in groups.
-use Rattle.std.proofs.Common.{◌≡◌, ℕ, zero, suc, ◌+◌, ◌<◌, Bool, true, false, cond, List, [], ◌∷◌, ◌++◌, Some, nat_eq, length, map, take, get_or, refl, sym, ap, ◌∙◌, subst, arith, All}
+use Rattle.param_tables.proofs.Common.{◌≡◌, ℕ, zero, suc, ◌+◌, ◌<◌, Bool, true, false, cond, List, [], ◌∷◌, ◌++◌, Some, nat_eq, length, map, take, get_or, refl, sym, ap, ◌∙◌, subst, arith, All, dedup, zip, IsPermutation, IsSorted, IsStrictlyIncreasing, nat_cmp, eqb-true, false≢true, append-nil, All-contains, filter_more, Contains-dedup_nat, Contains-from_dedup, Contains-permutation, IsPermutation-sym, IsStrictlyIncreasing-dedup, AreGrouped, IsWithin, grouped_place, is_given_nonzero, is_nonzero_value, ratio_place, regrouped, entries_of, given_in, ParamTable, RatioSizes}
 use Rattle.std.specs.Prelude.{◌↔◌, ℤ, Contains, filter, slice_get}
-use Rattle.std.specs.List.{dedup, zip}
-use Rattle.std.specs.List.Sorted.{IsPermutation, IsSorted, IsStrictlyIncreasing}
-use Rattle.std.specs.Ordering.{nat_cmp}
-use Rattle.std.proofs.lemmas.Bool.{eqb-true, false≢true}
-use Rattle.std.proofs.lemmas.List.{append-nil}
-use Rattle.std.proofs.lemmas.List.Elements.{All-contains, filter_more}
-use Rattle.std.proofs.lemmas.List.Kept.{Contains-dedup_nat, Contains-from_dedup}
-use Rattle.std.proofs.lemmas.List.Sorted.{Contains-permutation, IsPermutation-sym}
-use Rattle.std.proofs.lemmas.Map.Keys.{IsStrictlyIncreasing-dedup}
-use Rattle.param_tables.specs.RatioPlaces.{AreGrouped, IsWithin, grouped_place, is_given_nonzero, is_nonzero_value, ratio_place, regrouped}
-use Rattle.param_tables.specs.Tables.{entries_of, given_in}
-use Rattle.param_tables.specs.declared.param_table.ParamTable.{ParamTable}
-use Rattle.param_tables.specs.declared.ratio_sizes.RatioSizes.{RatioSizes}
 use Rattle.param_tables.proofs.AscendingLaws.{contains_filter, contains_from_filter, contains_from_map, contains_later, contains_map}
 use Rattle.param_tables.proofs.EntryLaws.{given_at_place}
 use Rattle.param_tables.proofs.RatioPlaceLaws.{regrouped_from, regrouped_is}

@@ -1,13 +1,5 @@
 -- The refusals of the used parameters, parameter by parameter.
-use Rattle.std.proofs.Common.{◌≡◌, ℕ, Bool, true, false, cond, ◌∷◌, ◌+◌, ◌-◌, ◌<◌, List, [], ◌++◌, Some, length, get_or, refl, sym, ap, ◌∙◌, arith}
-use Rattle.std.specs.Prelude.{filter}
-use Rattle.std.specs.List.{flat_map, range_with_len}
-use Rattle.std.proofs.lemmas.List.{append-nil}
-use Rattle.std.proofs.lemmas.List.FromFn.{get_or-range_with_len, length-range_with_len}
-use Rattle.model_sets.specs.Data.{Data, used_params}
-use Rattle.model_sets.specs.Params.{IsParam, is_used, param_at, param_count}
-use Rattle.param_tables.specs.InTurn.{first_of}
-use Rattle.param_tables.specs.Refusals.{Refusal, param_refusals}
+use Rattle.param_tables.proofs.Common.{◌≡◌, ℕ, Bool, true, false, cond, ◌∷◌, ◌+◌, ◌-◌, ◌<◌, List, [], ◌++◌, Some, length, get_or, refl, sym, ap, ◌∙◌, arith, filter, flat_map, range_with_len, append-nil, get_or-range_with_len, length-range_with_len, Data, used_params, IsParam, is_used, param_at, param_count, first_of, Refusal, param_refusals}
 use Rattle.param_tables.proofs.TurnLaws.{rest_from, rest_all, rest_free, rest_refused}
 
 -- the refusals of the parameter where the data use it

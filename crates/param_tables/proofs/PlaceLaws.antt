@@ -1,19 +1,7 @@
 -- The place of an index, subscript by subscript.
-use Rattle.std.proofs.Common.{◌≡◌, ℕ, zero, suc, ◌+◌, ◌-◌, ◌*◌, ◌/◌, ◌%◌, ◌^◌, ◌<◌, ◌≤◌, Bool, true, false, cond, ◌&&◌, List, [], ◌∷◌, ◌++◌, None, Some, length, take, drop, get_or, refl, sym, ap, ◌∙◌, subst, inl, inr, arith}
-use Rattle.std.specs.Prelude.{nat_le, nat_lt, slice_index_or, is_some}
-use Rattle.std.specs.List.{list_any, position_or_len}
-use Rattle.std.specs.Str.{bytes_eq}
-use Rattle.std.proofs.lemmas.Bool.{cases_lt, leb-true, lt-ltb, le-ltb}
-use Rattle.std.proofs.lemmas.List.{drop_more, length-take, take_more}
-use Rattle.std.proofs.lemmas.Slice.Zip.{AllZip-long, all_zipped_more}
+use Rattle.param_tables.proofs.Common.{◌≡◌, ℕ, zero, suc, ◌+◌, ◌-◌, ◌*◌, ◌/◌, ◌%◌, ◌^◌, ◌<◌, ◌≤◌, Bool, true, false, cond, ◌&&◌, List, [], ◌∷◌, ◌++◌, None, Some, length, take, drop, get_or, refl, sym, ap, ◌∙◌, subst, inl, inr, arith, nat_le, nat_lt, slice_index_or, is_some, list_any, position_or_len, bytes_eq, cases_lt, leb-true, lt-ltb, le-ltb, drop_more, length-take, take_more, AllZip-long, all_zipped_more, bytes_eq-Decides, indices_over, SetLists, members, is_among, index_of, AreSets, IsSet, limits, limit_of, IsPlaceOf, are_members, ArePositions, names_over}
 use Rattle.std.proofs.lemmas.List.Quantifiers.{position-Some}
 use Rattle.std.proofs.lemmas.List.Sums.{AllPass-from_list_all}
-use Rattle.std.proofs.lemmas.Slice.Eq.{bytes_eq-Decides}
-use Rattle.model_sets.specs.Data.{indices_over}
-use Rattle.model_sets.specs.Members.{SetLists, members, is_among, index_of, AreSets}
-use Rattle.model_sets.specs.Names.{IsSet, limits, limit_of}
-use Rattle.param_tables.specs.Places.{IsPlaceOf, are_members}
-use Rattle.param_tables.specs.Positions.{ArePositions, names_over}
 use Rattle.param_tables.proofs.IndexLaws.{IsPart, parts, length-push, get_or-push, below-push}
 
 -- how many indices there may be over n sets of 1000 members at most

@@ -1,9 +1,5 @@
 -- Which values lie in a range, with near misses.
-use Rattle.std.proofs.Common.{◌≡◌, ◌∷◌, [], Some, None, refl, map, pos, negsuc}
-use Rattle.std.specs.Prelude.{ℤ}
-use Rattle.param_tables.specs.Ranges.{range_fault, whole}
-use Rattle.param_tables.specs.declared.fault.CellFault.TheVariants.{Negative, NotPositive, NotWhole, OutOfRange, WholeUnits}
-use Rattle.model_sets.specs.declared.params.Range.TheVariants.{Any, AtLeastZero, AboveZero, ZeroToOne, OneOrTwo, Lifetime, ZeroOnly, MinusOneOrAtLeastZero}
+use Rattle.param_tables.proofs.Common.{◌≡◌, ◌∷◌, [], Some, None, refl, map, pos, negsuc, ℤ, range_fault, whole, Negative, NotPositive, NotWhole, OutOfRange, WholeUnits, Any, AtLeastZero, AboveZero, ZeroToOne, OneOrTwo, Lifetime, ZeroOnly, MinusOneOrAtLeastZero}
 
 -- ---- which values lie in a range
 

@@ -1,14 +1,6 @@
 -- Lists made by position: rows of equal length as one list, and a filter of what a list is made of.
-use Rattle.std.proofs.Common.{◌≡◌, ℕ, ◌*◌, ◌/◌, ◌%◌, ◌<◌, Bool, true, false, cond, List, [], ◌∷◌, length, map, get_or, refl, ap, ◌∙◌, arith}
-use Rattle.std.specs.Prelude.{filter}
-use Rattle.std.specs.List.{flat_map, range_with_len}
-use Rattle.std.proofs.lemmas.List.FromFn.{fill_by_all, get_or-map-range_with_len, get_or-range_with_len, length-map-range_with_len, length-range_with_len}
+use Rattle.param_tables.proofs.Common.{◌≡◌, ℕ, ◌*◌, ◌/◌, ◌%◌, ◌<◌, Bool, true, false, cond, List, [], ◌∷◌, length, map, get_or, refl, ap, ◌∙◌, arith, filter, flat_map, range_with_len, fill_by_all, get_or-map-range_with_len, get_or-range_with_len, length-map-range_with_len, length-range_with_len, SetLists, technology, mode, year, commodity, positions_in, ratio_index, ratio_indices, commodity_size, index_at_offset, ratio_sizes, region_size, technology_size, ActivityRatio}
 use Rattle.param_tables.proofs.IndexLaws.{IsPart, flat_map-congr, get_or-blocks, length-blocks, parts}
-use Rattle.model_sets.specs.Members.{SetLists}
-use Rattle.model_sets.specs.Names.{technology, mode, year}
-use Rattle.param_tables.specs.Ratios.{commodity, positions_in, ratio_index, ratio_indices}
-use Rattle.param_tables.specs.RatioPlaces.{commodity_size, index_at_offset, ratio_sizes, region_size, technology_size}
-use Rattle.param_tables.specs.declared.ratios.ActivityRatio.{ActivityRatio}
 
 -- m rows of n items each
 module _ {X : Type 0} (g : ℕ → ℕ → X) (m n : ℕ) where

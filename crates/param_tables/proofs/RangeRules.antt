@@ -1,14 +1,7 @@
 -- A value has no fault exactly where it lies in its range.
 use Rattle.std.proofs.Common.{◌≡◌, ℕ, ◌*◌, ◌/◌, ◌%◌, ◌≤◌, Bool, true, false, ◌&&◌, ◌||◌, None, Some, pos, negsuc, refl, sym, ap, ◌∙◌, subst, inl, inr, ◌⊎◌, arith, T}
-use Rattle.std.specs.Prelude.{ℤ, ◌≤ℤ◌, ◌<ℤ◌, int_le, int_lt, if◌then◌else◌}
+use Rattle.param_tables.proofs.Common.{ℤ, ◌≤ℤ◌, ◌<ℤ◌, int_le, int_lt, if◌then◌else◌, int_eq, eq-eqb, eqb-true, false≢true, leb-true, le-leb, IsInRange, RangesAreTold, is_whole, life_fault, minus_one, range_fault, unless, whole, CellFault, Negative, NotPositive, NotWhole, OutOfRange, WholeUnits, Range, Any, AtLeastZero, AboveZero, ZeroToOne, OneOrTwo, Lifetime, ZeroOnly, MinusOneOrAtLeastZero}
 use Rattle.std.specs.Cmp.{signed_Decides}
-use Rattle.std.specs.Ordering.{int_eq}
-use Rattle.std.proofs.lemmas.Bool.{eq-eqb, eqb-true, false≢true, leb-true, le-leb}
-use Rattle.param_tables.specs.Ranges.{IsInRange, RangesAreTold, is_whole, life_fault, minus_one, range_fault, unless, whole}
-use Rattle.param_tables.specs.declared.fault.CellFault.{CellFault}
-use Rattle.param_tables.specs.declared.fault.CellFault.TheVariants.{Negative, NotPositive, NotWhole, OutOfRange, WholeUnits}
-use Rattle.model_sets.specs.declared.params.Range.{Range}
-use Rattle.model_sets.specs.declared.params.Range.TheVariants.{Any, AtLeastZero, AboveZero, ZeroToOne, OneOrTwo, Lifetime, ZeroOnly, MinusOneOrAtLeastZero}
 
 true_so : (t : Bool) → T t → t ≡ true
 true_so true h = refl

@@ -1,11 +1,5 @@
 -- The definitions of where ratios aren't 0, computed on a worked example: one region, two technologies, one fuel, two modes and two years.
-use Rattle.std.proofs.Common.{false, ◌≡◌, ℕ, ◌∷◌, [], List, refl, pos}
-use Rattle.std.specs.Prelude.{codes, ℤ}
-use Rattle.model_sets.specs.Data.{Data, Given}
-use Rattle.model_sets.specs.Members.{SetLists}
-use Rattle.param_tables.specs.Ranges.{whole}
-use Rattle.param_tables.specs.Ratios.{nonzero_indices, nonzero_modes, nonzero_technologies, ratio_index}
-use Rattle.param_tables.specs.declared.ratios.ActivityRatio.TheVariants.{Input, Output, Emission}
+use Rattle.param_tables.proofs.Common.{false, ◌≡◌, ℕ, ◌∷◌, [], List, refl, pos, codes, ℤ, Data, Given, SetLists, whole, nonzero_indices, nonzero_modes, nonzero_technologies, ratio_index, Input, Output, Emission}
 
 two_each : SetLists
 two_each =

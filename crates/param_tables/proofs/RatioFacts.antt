@@ -1,28 +1,6 @@
 -- Where the ratios of kept data aren't 0: what is found among the places is what the data say.
-use Rattle.std.proofs.Common.{◌≡◌, ℕ, ◌+◌, ◌-◌, ◌*◌, ◌<◌, ◌≤◌, Bool, true, false, cond, List, [], ◌∷◌, Option, None, Some, pos, nat_eq, length, map, get_or, refl, sym, ap, ◌∙◌, subst, arith}
-use Rattle.std.specs.Prelude.{ℤ, Contains, filter}
-use Rattle.std.specs.List.{list_any, range_with_len}
-use Rattle.std.specs.List.Sorted.{IsStrictlyIncreasing}
-use Rattle.std.specs.Option.{option_or}
-use Rattle.std.proofs.lemmas.Bool.{false≢true}
-use Rattle.std.proofs.lemmas.List.{get_or-map, length-map}
-use Rattle.std.proofs.lemmas.List.Elements.{Contains-get_or}
-use Rattle.std.proofs.lemmas.List.Folds.{Any-from_list_any, list_any_at}
-use Rattle.std.proofs.lemmas.List.FromFn.{get_or-range_with_len, length-range_with_len}
-use Rattle.std.proofs.lemmas.List.Kept.{IsStrictlyIncreasing-filter}
-use Rattle.model_sets.specs.Data.{Data, IsUsedParam, unit_capacity, value_of_none}
-use Rattle.model_sets.specs.Members.{SetLists}
-use Rattle.param_tables.specs.Positions.{names_at}
-use Rattle.param_tables.specs.RatioPlaces.{AreBlocks, AreIndicesAt, AreKeptWith, ArePlacesOf, IsPartBetween, IsWithin, group_of, group_size, index_at_offset, is_given_nonzero, is_nonzero_value, places_of, ratio_place, ratio_sizes, region_size}
-use Rattle.param_tables.specs.Ratios.{AreMembersFor, IsRegion, IsTechnology, has_nonzero_mode, is_nonzero_in, is_ratio_nonzero, nonzero_indices, nonzero_modes, nonzero_technologies, ratio_param}
-use Rattle.param_tables.specs.Tables.{IsTableFor, IsUsable, entries_of, given_in, value_else}
-use Rattle.param_tables.specs.View.{data_by, facts_of}
-use Rattle.param_tables.specs.declared.param_table.ParamTable.{ParamTable}
+use Rattle.param_tables.proofs.Common.{◌≡◌, ℕ, ◌+◌, ◌-◌, ◌*◌, ◌<◌, ◌≤◌, Bool, true, false, cond, List, [], ◌∷◌, Option, None, Some, pos, nat_eq, length, map, get_or, refl, sym, ap, ◌∙◌, subst, arith, ℤ, Contains, filter, list_any, range_with_len, IsStrictlyIncreasing, option_or, false≢true, get_or-map, length-map, Contains-get_or, Any-from_list_any, list_any_at, get_or-range_with_len, length-range_with_len, IsStrictlyIncreasing-filter, Data, IsUsedParam, unit_capacity, value_of_none, SetLists, names_at, AreBlocks, AreIndicesAt, AreKeptWith, ArePlacesOf, IsPartBetween, IsWithin, group_of, group_size, index_at_offset, is_given_nonzero, is_nonzero_value, places_of, ratio_place, ratio_sizes, region_size, AreMembersFor, IsRegion, IsTechnology, has_nonzero_mode, is_nonzero_in, is_ratio_nonzero, nonzero_indices, nonzero_modes, nonzero_technologies, ratio_param, IsTableFor, IsUsable, entries_of, given_in, value_else, data_by, facts_of, ParamTable, RatioSizes, ActivityRatio, Input, Output, Emission, RatioIndex}
 use Rattle.param_tables.specs.declared.ratio_places.AllRatioPlaces.{AllRatioPlaces}
-use Rattle.param_tables.specs.declared.ratio_sizes.RatioSizes.{RatioSizes}
-use Rattle.param_tables.specs.declared.ratios.ActivityRatio.{ActivityRatio}
-use Rattle.param_tables.specs.declared.ratios.ActivityRatio.TheVariants.{Input, Output, Emission}
-use Rattle.param_tables.specs.declared.ratios.RatioIndex.{RatioIndex}
 use Rattle.param_tables.proofs.AscendingLaws.{ascending_filter, contains_filter, contains_from_filter, contains_from_map, contains_map}
 use Rattle.param_tables.proofs.IndexLaws.{map-map}
 use Rattle.param_tables.proofs.NonzeroLaws.{contains_given}

@@ -1,19 +1,5 @@
 -- The places of a ratio's indices: from a place to the index and back, and in groups.
-use Rattle.std.proofs.Common.{◌≡◌, ℕ, ◌+◌, ◌*◌, ◌/◌, ◌%◌, ◌<◌, ◌≤◌, [], ◌∷◌, length, refl, sym, ap, ◌∙◌, subst, inl, inr, arith}
-use Rattle.std.specs.Prelude.{slice_index_or}
-use Rattle.std.proofs.lemmas.Bool.{cases_eq, cases_lt}
-use Rattle.model_sets.specs.Data.{indices_of, indices_over}
-use Rattle.model_sets.specs.Members.{SetLists, members}
-use Rattle.model_sets.specs.Names.{region, technology, fuel, emission, mode, year}
-use Rattle.model_sets.specs.Params.{subscript_sets}
-use Rattle.param_tables.specs.Places.{IsPlaceOf}
-use Rattle.param_tables.specs.Positions.{IsIndexOf, names_at, names_over}
-use Rattle.param_tables.specs.Ratios.{count_in, ratio_index, ratio_param}
-use Rattle.param_tables.specs.RatioPlaces.{IsWithin, commodity_size, group_of, group_size, grouped_place, index_at_offset, offset_of, ratio_place, ratio_sizes, region_size, regrouped, technology_size}
-use Rattle.param_tables.specs.declared.ratio_sizes.RatioSizes.{RatioSizes}
-use Rattle.param_tables.specs.declared.ratios.ActivityRatio.{ActivityRatio}
-use Rattle.param_tables.specs.declared.ratios.ActivityRatio.TheVariants.{Input, Output, Emission}
-use Rattle.param_tables.specs.declared.ratios.RatioIndex.{RatioIndex}
+use Rattle.param_tables.proofs.Common.{◌≡◌, ℕ, ◌+◌, ◌*◌, ◌/◌, ◌%◌, ◌<◌, ◌≤◌, [], ◌∷◌, length, refl, sym, ap, ◌∙◌, subst, inl, inr, arith, slice_index_or, cases_eq, cases_lt, indices_of, indices_over, SetLists, members, region, technology, fuel, emission, mode, year, subscript_sets, IsPlaceOf, IsIndexOf, names_at, names_over, count_in, ratio_index, ratio_param, IsWithin, commodity_size, group_of, group_size, grouped_place, index_at_offset, offset_of, ratio_place, ratio_sizes, region_size, regrouped, technology_size, RatioSizes, ActivityRatio, Input, Output, Emission, RatioIndex}
 use Rattle.param_tables.proofs.IndexLaws.{IsPart, length-push, parts}
 use Rattle.param_tables.proofs.PlaceLaws.{place_more, place_none}
 

@@ -1,17 +1,5 @@
 -- The refusals of a parameter, by its table.
-use Rattle.std.proofs.Common.{◌≡◌, ℕ, zero, suc, ◌<◌, List, [], ◌∷◌, Option, None, Some, length, get_or, refl, ap, ◌∙◌, subst, arith}
-use Rattle.std.specs.Prelude.{ℤ}
-use Rattle.std.specs.List.{cons_option, filter_map}
-use Rattle.std.specs.Option.{option_map, option_or}
-use Rattle.model_sets.specs.Data.{Data, indices_of}
-use Rattle.param_tables.specs.InTurn.{first_of}
-use Rattle.model_sets.specs.Params.{range_of}
-use Rattle.param_tables.specs.Refusals.{Refusal, AtIndex, fault_at, param_refusals, value_fault}
-use Rattle.param_tables.specs.Tables.{IsFirstFault, IsTableFor, entries_of, given_in, place_fault, value_else}
-use Rattle.param_tables.specs.declared.fault.CellFault.{CellFault}
-use Rattle.param_tables.specs.declared.first_fault.PlaceFault.{PlaceFault}
-use Rattle.param_tables.specs.declared.param_table.ParamTable.{ParamTable}
-use Rattle.model_sets.specs.declared.params.Range.{Range}
+use Rattle.param_tables.proofs.Common.{◌≡◌, ℕ, zero, suc, ◌<◌, List, [], ◌∷◌, Option, None, Some, length, get_or, refl, ap, ◌∙◌, subst, arith, ℤ, cons_option, filter_map, option_map, option_or, Data, indices_of, first_of, range_of, Refusal, AtIndex, fault_at, param_refusals, value_fault, IsFirstFault, IsTableFor, entries_of, given_in, place_fault, value_else, CellFault, PlaceFault, ParamTable, Range}
 use Rattle.param_tables.proofs.DataLaws.{value_by_table}
 
 -- ---- the first of what is kept of a list

@@ -1,18 +1,8 @@
 -- Parts of lists of places that ascend, and the blocks in which their places lie.
-use Rattle.std.proofs.Common.{◌≡◌, ℕ, ◌+◌, ◌-◌, ◌*◌, ◌/◌, ◌%◌, ◌<◌, ◌≤◌, Bool, true, false, cond, List, [], nat_eq, length, map, get_or, refl, sym, ap, ◌∙◌, subst, inl, inr, arith}
-use Rattle.std.specs.Prelude.{Contains}
-use Rattle.std.specs.List.{between, dedup}
-use Rattle.std.specs.List.Sorted.{IsSorted, IsStrictlyIncreasing}
-use Rattle.std.specs.Ordering.{is_lt, nat_cmp}
-use Rattle.std.specs.declared.cmp.Ordering.TheVariants.{Less, Equal, Greater}
-use Rattle.std.proofs.lemmas.Bool.{cases_lt, le-ltb}
-use Rattle.std.proofs.lemmas.List.{get_or-map, get_or_default, length-map}
+use Rattle.param_tables.proofs.Common.{◌≡◌, ℕ, ◌+◌, ◌-◌, ◌*◌, ◌/◌, ◌%◌, ◌<◌, ◌≤◌, Bool, true, false, cond, List, [], nat_eq, length, map, get_or, refl, sym, ap, ◌∙◌, subst, inl, inr, arith, Contains, between, dedup, IsSorted, IsStrictlyIncreasing, is_lt, nat_cmp, Less, Equal, Greater, cases_lt, le-ltb, get_or-map, get_or_default, length-map, Contains-dedup_nat, Contains-from_dedup, IsStrictlyIncreasing-dedup, AreBlocks, IsPartBetween}
 use Rattle.std.proofs.lemmas.List.Edits.{get_or-between, length-between}
-use Rattle.std.proofs.lemmas.List.Kept.{Contains-dedup_nat, Contains-from_dedup}
-use Rattle.std.proofs.lemmas.Map.Keys.{IsStrictlyIncreasing-dedup}
 use Rattle.std.proofs.lemmas.Nat.{le-div}
 use Rattle.std.proofs.Math.Nat.{div-mul-le_self}
-use Rattle.param_tables.specs.RatioPlaces.{AreBlocks, IsPartBetween}
 use Rattle.param_tables.proofs.AscendingLaws.{contains_from_map, contains_map}
 use Rattle.param_tables.proofs.EntryLaws.{rising_all}
 use Rattle.param_tables.proofs.IndexLaws.{IsPart, parts}
@@ -148,11 +138,3 @@ module _ (places part : List ℕ) (start width count : ℕ) (some : 0 < width) (
           let here : quotient p ≡ block = ap (λ n. n / width) rest ∙ back.block in
           let mapped : Contains (map quotient part) block = subst (Contains (map quotient part)) here (contains_map quotient part p in_part) in
           subst (λ xs. Contains xs block) (sym whole) (Contains-dedup_nat (map quotient part) block mapped)
-
--- blocks without places
-pub no_blocks : (places : List ℕ) (start width count : ℕ) (blocks : List ℕ) → width ≡ 0 → blocks ≡ [] → AreBlocks places start width count blocks
-no_blocks places start width count blocks none empty = record {
-  rising = λ k below. absurd (omega (arith, ap length empty));
-  inside = λ block has. let below = has.1 in absurd (omega (arith, ap length empty));
-  all = λ block i below inside has. absurd (omega arith);
-}

@@ -1,21 +1,8 @@
 -- When a member is refused depends on the members of its own set alone.
 use Rattle.std.proofs.Common.{◌≡◌, ℕ, ◌+◌, ◌-◌, ◌<◌, Bool, true, false, cond, not, ◌&&◌, List, [], ◌∷◌, length, get_or, map, nat_eq, Option, None, Some, if◌then◌else◌, set, refl, sym, ap, subst, ◌∙◌, arith}
-use Rattle.std.specs.Prelude.{nat_le, filter}
-use Rattle.std.specs.List.{AllByRecursion, find, range_with_len}
-use Rattle.std.proofs.lemmas.List.FromFn.{fill_by_all, get_or-map-range_with_len, get_or-range_with_len, length-range_with_len}
-use Rattle.std.proofs.lemmas.List.{get_or-set_same}
-use Rattle.std.specs.Option.{option_map}
+use Rattle.param_tables.proofs.Common.{nat_le, filter, AllByRecursion, find, range_with_len, fill_by_all, get_or-map-range_with_len, get_or-range_with_len, length-range_with_len, get_or-set_same, option_map, IsSet, set_count, year, limit_of, required_sets, IsDueTo, is_year, SetFault, Fault, Memory, only, fault_in, refusal_after, member_refusals, set_refusals, first_set_refusal, IsSetFailDue, members_told, set_lists, first_of, Blocks}
 use Rattle.model_sets.specs.Members.{SetLists, no_members, members, is_among, first_refusal, first_empty, is_without_members, empty_set, bad_year, twice_in_set, too_many}
-use Rattle.model_sets.specs.Names.{IsSet, set_count, year, limit_of, required_sets}
-use Rattle.model_sets.specs.Refusals.{IsDueTo}
-use Rattle.model_sets.specs.Years.{is_year}
 use Rattle.model_sets.specs.declared.fault.SetFail.{SetFail}
-use Rattle.model_sets.specs.declared.fault.SetFault.{SetFault}
-use Rattle.model_sets.specs.declared.fault.SetFail.TheVariants.{Fault, Memory}
-use Rattle.param_tables.specs.SetRefusals.{only, fault_in, refusal_after, member_refusals, set_refusals, first_set_refusal, IsSetFailDue}
-use Rattle.param_tables.specs.BlockData.{members_told, set_lists}
-use Rattle.param_tables.specs.InTurn.{first_of}
-use Rattle.mathprog_data.specs.Meaning.{Blocks}
 use Rattle.param_tables.proofs.TurnLaws.{rest_from, rest_free, rest_refused, rest_all}
 
 -- the members of a set that was given these

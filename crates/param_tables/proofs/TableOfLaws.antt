@@ -1,24 +1,7 @@
 -- The table of a statement, and the tables of all parameters, statement by statement.
-use Rattle.std.proofs.Common.{◌≡◌, ◌≢◌, ℕ, true, false, ◌+◌, ◌-◌, ◌<◌, ◌≤◌, List, [], ◌∷◌, ◌++◌, Option, None, Some, length, map, nat_eq, get_or, set, take, refl, sym, ap, ◌∙◌, subst, inl, inr, arith, All}
+use Rattle.param_tables.proofs.Common.{◌≡◌, ◌≢◌, ℕ, true, false, ◌+◌, ◌-◌, ◌<◌, ◌≤◌, List, [], ◌∷◌, ◌++◌, Option, None, Some, length, map, nat_eq, get_or, set, take, refl, sym, ap, ◌∙◌, subst, inl, inr, arith, All, IsDistinct, IsStrictlyIncreasing, cases_eq, cases_lt, false≢true, get_or_default, get_or-set_same, get_or-set_other, length-set, take_more, slice_get-get_or, default_of, given_at, indices_of, SetLists, is_used, param_at, param_count, data_of, in_turn, Refusal, value_refusal, value_refusals, ParamBlock, AreGiven, AreTablesFor, IsUsable, IsTableFor, IsTableOf, entries_of, given_in, IsStopDue, refusal_told, Stop, ParamTable}
 use Rattle.std.specs.Prelude.{ℤ, pos, Result, Err, IfErr, if◌then◌else◌}
-use Rattle.std.specs.List.{IsDistinct, zip}
-use Rattle.std.specs.List.Sorted.{IsStrictlyIncreasing}
-use Rattle.std.proofs.lemmas.Bool.{cases_eq, cases_lt, false≢true}
-use Rattle.std.proofs.lemmas.List.{get_or_default, get_or-set_same, get_or-set_other, length-set, take_more}
-use Rattle.std.proofs.lemmas.Option.{slice_get-get_or}
-use Rattle.model_sets.specs.Data.{default_of, given_at, indices_of}
-use Rattle.model_sets.specs.Members.{SetLists}
-use Rattle.model_sets.specs.Params.{is_used, param_at, param_count}
-use Rattle.param_tables.specs.BlockData.{data_of}
-use Rattle.param_tables.specs.InTurn.{in_turn}
-use Rattle.param_tables.specs.Refusals.{Refusal, value_refusal, value_refusals}
-use Rattle.mathprog_data.specs.Meaning.{ParamBlock}
-use Rattle.param_tables.specs.Tables.{AreGiven, AreTablesFor, IsUsable, IsTableFor, IsTableOf, entries_of, given_in}
-use Rattle.param_tables.specs.Stops.{IsStopDue}
-use Rattle.param_tables.specs.Told.{refusal_told}
-use Rattle.param_tables.specs.declared.fault.Stop.{Stop}
 use Rattle.param_tables.specs.declared.fault.Stop.TheVariants as stop
-use Rattle.param_tables.specs.declared.param_table.ParamTable.{ParamTable}
 use Rattle.param_tables.proofs.DataLaws.{default_of-here, default_of-other, given_at-here, given_at-other, none_before}
 use Rattle.param_tables.proofs.EntryLaws.{given_at_place}
 
@@ -122,23 +105,6 @@ pub record IsEmptyTable (table : ParamTable) : Type 0 where
   pub default : table.default ≡ None
   pub places : table.places.items ≡ []
   pub values : table.values.items ≡ []
-
-table_of_nothing : (sets : SetLists) (p : ℕ) (table : ParamTable) → IsEmptyTable table → IsTableFor (data_of sets []) p table
-table_of_nothing sets p table empty = record {
-  shape = record {
-    ascending = λ k below. absurd (omega (arith, ap length empty.places));
-    long = ap length empty.values ∙ sym (ap length empty.places);
-    below = λ k d inside. absurd (omega (arith, ap length empty.places));
-  };
-  given = λ place below. sym (ap (λ ps. given_in (zip ps table.values.items) place) empty.places);
-  default = sym empty.default;
-}
-
-pub tables_of_nothing : (sets : SetLists) (tables : List ParamTable) → length tables ≡ param_count → ((j : ℕ) → j < param_count → (e : ParamTable) → IsEmptyTable (get_or tables j e)) → AreTablesFor (data_of sets []) tables
-tables_of_nothing sets tables all empty = record {
-  all = all;
-  each = λ p used e. let low = used.0.0 in let high = used.0.1 in table_of_nothing sets p (get_or tables (p - 1) e) (empty (p - 1) (omega arith) e);
-}
 
 -- what is said of the stop of a `?` is said of the error that it hands on
 pub stop_handed : (r : Result (Unit {0}) Stop) (y why : Stop) (P : Stop → Type 0) → r ≡ Err y → y ≡ why → P why → IfErr r P

@@ -1,9 +1,5 @@
 -- Refusals that are looked for item by item: a step, and the end.
-use Rattle.std.proofs.Common.{◌≡◌, ℕ, ◌+◌, ◌<◌, ◌≤◌, List, [], ◌∷◌, ◌++◌, Option, None, Some, length, take, drop, get_or, refl, ap, ◌∙◌}
-use Rattle.std.specs.List.{cons_option, enumerate_from, filter_map, flat_map}
-use Rattle.std.specs.Option.{option_or}
-use Rattle.std.proofs.lemmas.List.{at_drop_all, at_drop_more, append_assoc}
-use Rattle.param_tables.specs.InTurn.{first_of}
+use Rattle.param_tables.proofs.Common.{◌≡◌, ℕ, ◌+◌, ◌<◌, ◌≤◌, List, [], ◌∷◌, ◌++◌, Option, None, Some, length, take, drop, get_or, refl, ap, ◌∙◌, cons_option, enumerate_from, filter_map, flat_map, option_or, at_drop_all, at_drop_more, append_assoc, first_of}
 
 module _ {X R : Type 0} (refusal_after : List X → X → Option R) where
   -- the refusals of the items from place i on

@@ -1,17 +1,7 @@
 -- What the sets and tables in memory mean, index by index.
-use Rattle.std.proofs.Common.{◌≡◌, ℕ, ◌-◌, Bool, true, refl, List, [], get_or, sym, ap, ◌∙◌}
-use Rattle.std.specs.Prelude.{Contains, IsSomeAnd}
-use Rattle.std.proofs.lemmas.List.{get_or_default}
+use Rattle.param_tables.proofs.Common.{◌≡◌, ℕ, ◌-◌, Bool, true, refl, List, [], get_or, sym, ap, ◌∙◌, Contains, IsSomeAnd, get_or_default, Data, IsUsedParam, given_at, indices_of, value_at, SetLists, is_used, param_at, range_of, subscript_sets, IsValueIn, IsPlaceOf, IsTableFor, IsUsable, entries_of, given_in, table_value, AreKept, data_by, facts_of, ParamTable}
 use Rattle.model_sets.specs.declared.params.Use.{Use}
 use Rattle.model_sets.specs.declared.params.Use.TheVariants.{Always, WhereStated, Never}
-use Rattle.model_sets.specs.Data.{Data, IsUsedParam, given_at, indices_of, value_at}
-use Rattle.model_sets.specs.Members.{SetLists}
-use Rattle.model_sets.specs.Params.{is_used, param_at, range_of, subscript_sets}
-use Rattle.param_tables.specs.Built.{IsValueIn}
-use Rattle.param_tables.specs.Places.{IsPlaceOf}
-use Rattle.param_tables.specs.Tables.{IsTableFor, IsUsable, entries_of, given_in, table_value}
-use Rattle.param_tables.specs.View.{AreKept, data_by, facts_of}
-use Rattle.param_tables.specs.declared.param_table.ParamTable.{ParamTable}
 use Rattle.param_tables.proofs.CanonicalLaws.{given_canonical, value_canonical}
 use Rattle.param_tables.proofs.DataLaws.{value_by_table}
 

@@ -1,10 +1,5 @@
-use Rattle.std.proofs.Common.{◌≡◌, Some, refl, sym, ◌∙◌, subst}
-use Rattle.param_tables.specs.BlockData.{data_told}
+use Rattle.param_tables.proofs.Common.{◌≡◌, Some, refl, sym, ◌∙◌, subst, data_told, first_refusal, blocks_told, IsStopDue, NamesCell, refusal_told}
 use Rattle.param_tables.specs.Built.{AreComplete, AreGivenAlike, AreSameData}
-use Rattle.param_tables.specs.Refusals.{first_refusal}
-use Rattle.mathprog_data.specs.BlocksView.{blocks_told}
-use Rattle.param_tables.specs.Stops.{IsStopDue}
-use Rattle.param_tables.specs.Told.{NamesCell, refusal_told}
 use Rattle.param_tables.proofs.CanonicalLaws.{alike_canonical, same_canonical}
 use Rattle.param_tables.proofs.building.build.Goals as goal
 

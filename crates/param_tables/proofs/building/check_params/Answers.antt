@@ -1,15 +1,4 @@
-use Rattle.std.proofs.Common.{◌≡◌, ℕ, Bool, ◌+◌, ◌-◌, List, get_or, sym, ap, ◌∙◌, subst, arith}
-use Rattle.std.specs.List.{flat_map}
-use Rattle.std.proofs.lemmas.Result.{err_from_is_err_and}
-use Rattle.model_sets.specs.Data.{Data, used_params}
-use Rattle.model_sets.specs.Params.{IsParam, is_used, param_at, param_count}
-use Rattle.param_tables.specs.InTurn.{first_of}
-use Rattle.param_tables.specs.Refusals.{param_refusals}
-use Rattle.param_tables.specs.Tables.{AreTablesFor, IsTableFor, IsUsable}
-use Rattle.param_tables.specs.Stops.{IsStopDue}
-use Rattle.param_tables.specs.declared.fault.Stop.{Stop}
-use Rattle.model_sets.specs.Members.{SetLists}
-use Rattle.param_tables.specs.declared.param_table.ParamTable.{ParamTable}
+use Rattle.param_tables.proofs.Common.{◌≡◌, ℕ, Bool, ◌+◌, ◌-◌, List, get_or, sym, ap, ◌∙◌, subst, arith, flat_map, err_from_is_err_and, Data, used_params, IsParam, is_used, param_at, param_count, first_of, param_refusals, AreTablesFor, IsTableFor, IsUsable, IsStopDue, Stop, SetLists, ParamTable}
 use Rattle.param_tables.proofs.ParamLaws.{AreFreeUpTo, free_none, free_more, free_all, if_used, if_unused, refused_first}
 use Rattle.param_tables.proofs.TableOfLaws.{stop_first, stop_handed}
 use Rattle.param_tables.proofs.ViewLaws.{usable}

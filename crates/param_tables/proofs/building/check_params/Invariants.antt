@@ -1,6 +1,4 @@
-use Rattle.std.proofs.Common.{◌≡◌, ◌-◌}
-use Rattle.model_sets.specs.Data.{Data}
-use Rattle.param_tables.specs.Tables.{AreTablesFor}
+use Rattle.param_tables.proofs.Common.{◌≡◌, ◌-◌, Data, AreTablesFor}
 use Rattle.param_tables.proofs.ParamLaws.{AreFreeUpTo}
 use Rattle.param_tables.proofs.building.check_params.Given as goal
 

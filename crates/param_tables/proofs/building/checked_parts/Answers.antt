@@ -1,10 +1,4 @@
-use Rattle.std.proofs.Common.{◌≡◌, None, sym, subst}
-use Rattle.std.proofs.lemmas.Result.{IfOk-from_err, err_from_is_err_and}
-use Rattle.mathprog_data.specs.BlocksView.{blocks_told}
-use Rattle.param_tables.specs.RatioPlaces.{AreAllPlaces}
-use Rattle.param_tables.specs.Refusals.{first_refusal}
-use Rattle.param_tables.specs.Tables.{HaveShapes}
-use Rattle.param_tables.specs.View.{data_by}
+use Rattle.param_tables.proofs.Common.{◌≡◌, None, sym, subst, IfOk-from_err, err_from_is_err_and, blocks_told, AreAllPlaces, first_refusal, HaveShapes, data_by}
 use Rattle.param_tables.proofs.KeptLaws.{shapes_of}
 use Rattle.param_tables.proofs.building.checked_parts.Goals as goal
 

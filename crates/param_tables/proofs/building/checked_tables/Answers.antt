@@ -1,17 +1,4 @@
-use Rattle.std.proofs.Common.{◌≡◌, ◌≤◌, List, [], None, length, refl, sym, ap, ◌∙◌, subst, arith}
-use Rattle.std.specs.List.{flat_map}
-use Rattle.std.proofs.lemmas.Result.{IfOk-from_err, err_from_is_err_and}
-use Rattle.model_sets.specs.Data.{Data}
-use Rattle.model_sets.specs.Members.{members}
-use Rattle.param_tables.specs.BlockData.{data_of, data_told}
-use Rattle.param_tables.specs.Canonical.{canonical}
-use Rattle.param_tables.specs.InTurn.{first_of}
-use Rattle.param_tables.specs.Refusals.{first_refusal, storage, value_refusals}
-use Rattle.mathprog_data.specs.BlocksView.{blocks_told, params_told}
-use Rattle.param_tables.specs.Tables.{AreTablesFor}
-use Rattle.param_tables.specs.Stops.{IsStopDue}
-use Rattle.param_tables.specs.View.{data_by}
-use Rattle.param_tables.specs.declared.param_table.ParamTable.{ParamTable}
+use Rattle.param_tables.proofs.Common.{◌≡◌, ◌≤◌, List, [], None, length, refl, sym, ap, ◌∙◌, subst, arith, flat_map, IfOk-from_err, err_from_is_err_and, Data, members, data_of, data_told, canonical, first_of, first_refusal, storage, value_refusals, blocks_told, params_told, AreTablesFor, IsStopDue, data_by, ParamTable}
 use Rattle.param_tables.proofs.BuildLaws.{value_first, params_left, tables_told}
 use Rattle.param_tables.proofs.FactLaws.{tables_for_data}
 use Rattle.param_tables.proofs.KeptLaws.{facts_told, kept_of, shapes_of}

@@ -1,6 +1,4 @@
-use Rattle.std.proofs.Common.{◌≡◌, drop}
-use Rattle.param_tables.specs.BlockData.{has_second}
-use Rattle.mathprog_data.specs.BlocksView.{params_told}
+use Rattle.param_tables.proofs.Common.{◌≡◌, drop, has_second, params_told}
 use Rattle.param_tables.proofs.building.has_second.Given as goal
 
 abbrev pub invariant-loop-block : goal.invariant-loop-block

@@ -1,12 +1,5 @@
 -- The tables mean the data with the value, and the places are theirs.
-use Rattle.std.proofs.Common.{ℕ, List, [], get_or, sym, subst}
-use Rattle.std.specs.Prelude.{Contains}
-use Rattle.std.proofs.lemmas.List.{get_or_default}
-use Rattle.model_sets.specs.Data.{indices_of}
-use Rattle.param_tables.specs.Changed.{AreDataWith}
-use Rattle.param_tables.specs.RatioPlaces.{AreAllPlaces}
-use Rattle.param_tables.specs.Tables.{HaveShapes}
-use Rattle.param_tables.specs.View.{facts_of}
+use Rattle.param_tables.proofs.Common.{ℕ, List, [], get_or, sym, subst, Contains, get_or_default, indices_of, AreDataWith, AreAllPlaces, HaveShapes, facts_of}
 use Rattle.param_tables.proofs.ChangeLaws.{changed, data_with, shapes}
 use Rattle.param_tables.proofs.changed.changed_parts.Goals as goal
 

@@ -1,7 +1,5 @@
 -- The tables so far are copied.
-use Rattle.std.proofs.Common.{◌≡◌, ℕ, ◌<◌, length, get_or}
-use Rattle.param_tables.specs.ChangedTables.{IsCopyOf}
-use Rattle.param_tables.specs.declared.param_table.ParamTable.{ParamTable}
+use Rattle.param_tables.proofs.Common.{◌≡◌, ℕ, ◌<◌, length, get_or, IsCopyOf, ParamTable}
 use Rattle.param_tables.proofs.changed.copied_tables.Given as goal
 
 abbrev pub invariant-loop-table : goal.invariant-loop-table

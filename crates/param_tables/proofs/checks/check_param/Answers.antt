@@ -1,10 +1,4 @@
-use Rattle.std.proofs.Common.{◌≡◌, [], None, Some, length, get_or, sym, ap, ◌∙◌, subst}
-use Rattle.model_sets.specs.Data.{indices_of, indices_over}
-use Rattle.param_tables.specs.Places.{IsPlaceOf}
-use Rattle.param_tables.specs.Positions.{ArePositions, IsIndexOf, names_at, names_over}
-use Rattle.model_sets.specs.Params.{range_of}
-use Rattle.param_tables.specs.Refusals.{AtIndex, value_fault}
-use Rattle.param_tables.specs.Tables.{entries_of, value_else}
+use Rattle.param_tables.proofs.Common.{◌≡◌, [], None, Some, length, get_or, sym, ap, ◌∙◌, subst, indices_of, indices_over, IsPlaceOf, ArePositions, IsIndexOf, names_at, names_over, range_of, AtIndex, value_fault, entries_of, value_else}
 use Rattle.param_tables.proofs.RefusalLaws.{param_refusals-none, param_refusals-first, same_faults}
 use Rattle.param_tables.proofs.checks.check_param.Goals as goal
 

@@ -1,6 +1,5 @@
 -- Set by set.
-use Rattle.std.proofs.Common.{◌+◌, ◌<◌, [], length, sym, ◌∙◌, arith}
-use Rattle.std.proofs.lemmas.List.{get_or_default, same_lists}
+use Rattle.param_tables.proofs.Common.{◌+◌, ◌<◌, [], length, sym, ◌∙◌, arith, get_or_default, same_lists}
 use Rattle.param_tables.proofs.copied_sets.copied_sets.Goals as goal
 
 pub returns : goal.returns

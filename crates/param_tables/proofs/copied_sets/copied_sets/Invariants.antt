@@ -1,6 +1,5 @@
 -- The sets so far are copied, and the others have no members yet.
-use Rattle.std.proofs.Common.{◌≡◌, ℕ, ◌+◌, ◌<◌, ◌≤◌, [], length, get_or}
-use Rattle.model_sets.specs.Names.{set_count}
+use Rattle.param_tables.proofs.Common.{◌≡◌, ℕ, ◌+◌, ◌<◌, ◌≤◌, [], length, get_or, set_count}
 use Rattle.param_tables.proofs.copied_sets.copied_sets.Given as goal
 
 abbrev pub invariant-loop-set : goal.invariant-loop-set

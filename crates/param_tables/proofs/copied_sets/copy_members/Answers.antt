@@ -1,9 +1,7 @@
 -- Member by member.
 use Rattle.std.proofs.Common.{◌≡◌, ◌+◌, ◌-◌, ◌<◌, [], ◌∷◌, ◌++◌, None, Some, length, take, set as with_at, sym, ap, subst, ◌∙◌, arith}
-use Rattle.std.proofs.lemmas.List.{set-set, take_more}
+use Rattle.param_tables.proofs.Common.{set-set, take_more, IsDueTo, Fault}
 use Rattle.model_sets.specs.Members.{members, first_refusal}
-use Rattle.model_sets.specs.Refusals.{IsDueTo}
-use Rattle.model_sets.specs.declared.fault.SetFail.TheVariants.{Fault}
 use Rattle.param_tables.proofs.CopyLaws.{none_refused}
 use Rattle.param_tables.proofs.SetLaws.{members-set}
 use Rattle.param_tables.proofs.copied_sets.copy_members.Goals as goal

@@ -1,7 +1,6 @@
 -- The copy has the members so far.
-use Rattle.std.proofs.Common.{◌≡◌, ◌-◌, take}
+use Rattle.param_tables.proofs.Common.{◌≡◌, ◌-◌, take, members}
 use Rattle.std.proofs.Common.{set as with_at}
-use Rattle.model_sets.specs.Members.{members}
 use Rattle.param_tables.proofs.copied_sets.copy_members.Given as goal
 
 abbrev pub invariant-loop-i : goal.invariant-loop-i

@@ -1,10 +1,5 @@
-use Rattle.std.proofs.Common.{◌≡◌, ℕ, ◌+◌, ◌<◌, ◌≤◌, List, None, Some, length, get_or, sym, ap, ◌∙◌, subst, arith}
+use Rattle.param_tables.proofs.Common.{◌≡◌, ℕ, ◌+◌, ◌<◌, ◌≤◌, List, None, Some, length, get_or, sym, ap, ◌∙◌, subst, arith, slice_get, slice_get-get_or, fault_before, IsFirstFault, CellFault, PlaceFault}
 use Rattle.std.specs.Prelude.{Option}
-use Rattle.std.specs.List.{slice_get}
-use Rattle.std.proofs.lemmas.Option.{slice_get-get_or}
-use Rattle.param_tables.specs.Tables.{fault_before, IsFirstFault}
-use Rattle.param_tables.specs.declared.fault.CellFault.{CellFault}
-use Rattle.param_tables.specs.declared.first_fault.PlaceFault.{PlaceFault}
 use Rattle.param_tables.proofs.GapLaws.{IsWalked, fault_at_place, gap_first, gap_last, places_after, value_first, walked_more}
 use Rattle.param_tables.proofs.first_fault.first_fault.Goals as goal
 

@@ -1,14 +1,4 @@
-use Rattle.std.proofs.Common.{◌≡◌, ◌<◌, ℕ, true, false, None, Some, length, get_or, nat_eq, take, sym, ap, ◌∙◌, subst, arith, rules, to_z, of_z}
-use Rattle.std.specs.Prelude.{is_some, if◌then◌else◌}
-use Rattle.std.specs.BTreeMap.{get}
-use Rattle.std.specs.Int.{w128}
-use Rattle.std.specs.Ordering.{nat_cmp}
-use Rattle.model_sets.specs.Params.{subscript_count, subscript_sets}
-use Rattle.mathprog_data.specs.Meaning.{GivenValue}
-use Rattle.param_tables.specs.InTurn.{in_turn}
-use Rattle.param_tables.specs.Places.{IsPlaceOf, are_members}
-use Rattle.param_tables.specs.Refusals.{UnknownName, GivenBefore, is_given_among, value_refusal}
-use Rattle.param_tables.specs.Tables.{given_among}
+use Rattle.param_tables.proofs.Common.{◌≡◌, ◌<◌, ℕ, true, false, None, Some, length, get_or, nat_eq, take, sym, ap, ◌∙◌, subst, arith, rules, to_z, of_z, is_some, if◌then◌else◌, get, w128, nat_cmp, subscript_count, subscript_sets, GivenValue, in_turn, IsPlaceOf, are_members, UnknownName, GivenBefore, is_given_among, value_refusal, given_among}
 use Rattle.param_tables.proofs.GivenLaws.{no_value, value_there, unknown_refused, twice_refused, value_free, is_some-given, given_more, found_here, none_from}
 use Rattle.param_tables.proofs.IndexLaws.{names_apart_from}
 use Rattle.param_tables.proofs.TurnLaws.{in_turn_free, in_turn_refused}

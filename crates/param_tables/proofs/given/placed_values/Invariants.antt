@@ -1,9 +1,4 @@
-use Rattle.std.proofs.Common.{◌≡◌, take}
-use Rattle.std.specs.BTreeMap.{get}
-use Rattle.std.specs.Ordering.{nat_cmp}
-use Rattle.param_tables.specs.InTurn.{in_turn}
-use Rattle.param_tables.specs.Refusals.{value_refusal}
-use Rattle.param_tables.specs.Tables.{AreGiven}
+use Rattle.param_tables.proofs.Common.{◌≡◌, take, get, nat_cmp, in_turn, value_refusal, AreGiven}
 use Rattle.param_tables.proofs.TurnLaws.{in_turn_from}
 use Rattle.param_tables.proofs.given.placed_values.Given as goal
 

@@ -1,10 +1,4 @@
-use Rattle.std.proofs.Common.{◌≡◌, ℕ, ◌+◌, ◌/◌, ◌%◌, ◌<◌, List, [], ◌∷◌, ◌++◌, length, get_or, sym, ap, subst, ◌∙◌, ◌^◌, All, arith}
-use Rattle.model_sets.specs.Data.{indices_over}
-use Rattle.model_sets.specs.Members.{SetLists, members}
-use Rattle.model_sets.specs.Names.{IsSet}
-use Rattle.param_tables.specs.Places.{IsPlaceOf}
-use Rattle.param_tables.specs.Positions.{ArePositions, names_over}
-use Rattle.std.proofs.lemmas.List.{get_or_append_left, length-append}
+use Rattle.param_tables.proofs.Common.{◌≡◌, ℕ, ◌+◌, ◌/◌, ◌%◌, ◌<◌, List, [], ◌∷◌, ◌++◌, length, get_or, sym, ap, subst, ◌∙◌, ◌^◌, All, arith, indices_over, SetLists, members, IsSet, IsPlaceOf, ArePositions, names_over, get_or_append_left, length-append}
 use Rattle.param_tables.proofs.PlaceLaws.{place_parts, place_last, ArePositions-push}
 use Rattle.param_tables.proofs.indices.+index_at.Goals as goal
 

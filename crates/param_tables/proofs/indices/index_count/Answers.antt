@@ -1,7 +1,4 @@
-use Rattle.std.proofs.Common.{◌≡◌, ℕ, ◌*◌, ◌^◌, ◌≤◌, length, get_or, take, refl, sym, ap, ◌∙◌, arith}
-use Rattle.std.proofs.lemmas.List.{take_all, take_more}
-use Rattle.model_sets.specs.Data.{indices_over}
-use Rattle.model_sets.specs.Members.{members}
+use Rattle.param_tables.proofs.Common.{◌≡◌, ℕ, ◌*◌, ◌^◌, ◌≤◌, length, get_or, take, refl, sym, ap, ◌∙◌, arith, take_all, take_more, indices_over, members}
 use Rattle.param_tables.proofs.IndexLaws.{length-push}
 use Rattle.param_tables.proofs.PlaceLaws.{most, most-zero, most-four, most-five, count_more, members-most}
 use Rattle.param_tables.proofs.indices.index_count.Goals as goal

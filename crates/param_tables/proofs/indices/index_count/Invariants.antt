@@ -1,5 +1,4 @@
-use Rattle.std.proofs.Common.{◌≡◌, ◌≤◌, length, take}
-use Rattle.model_sets.specs.Data.{indices_over}
+use Rattle.param_tables.proofs.Common.{◌≡◌, ◌≤◌, length, take, indices_over}
 use Rattle.param_tables.proofs.PlaceLaws.{most}
 use Rattle.param_tables.proofs.indices.index_count.Given as goal
 

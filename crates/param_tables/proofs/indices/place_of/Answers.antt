@@ -1,9 +1,4 @@
-use Rattle.std.proofs.Common.{◌≡◌, ℕ, ◌+◌, ◌*◌, ◌^◌, ◌<◌, ◌≤◌, length, get_or, take, sym, ap, subst, ◌∙◌, arith}
-use Rattle.std.proofs.lemmas.List.{take_all}
-use Rattle.std.proofs.lemmas.Slice.Zip.{AllZip-long}
-use Rattle.model_sets.specs.Members.{members}
-use Rattle.param_tables.specs.Places.{IsPlaceOf}
-use Rattle.param_tables.specs.Positions.{names_over}
+use Rattle.param_tables.proofs.Common.{◌≡◌, ℕ, ◌+◌, ◌*◌, ◌^◌, ◌<◌, ◌≤◌, length, get_or, take, sym, ap, subst, ◌∙◌, arith, take_all, AllZip-long, members, IsPlaceOf, names_over}
 use Rattle.param_tables.proofs.PlaceLaws.{most, most-zero, most-four, small_more, members-most, place_none, place_step, position_within, names_over-more}
 use Rattle.param_tables.proofs.indices.place_of.Goals as goal
 

@@ -1,6 +1,4 @@
-use Rattle.std.proofs.Common.{◌<◌, take}
-use Rattle.param_tables.specs.Places.{IsPlaceOf}
-use Rattle.param_tables.specs.Positions.{names_over}
+use Rattle.param_tables.proofs.Common.{◌<◌, take, IsPlaceOf, names_over}
 use Rattle.param_tables.proofs.PlaceLaws.{most}
 use Rattle.param_tables.proofs.indices.place_of.Given as goal
 

@@ -1,8 +1,4 @@
-use Rattle.std.proofs.Common.{◌≡◌, ℕ, ◌+◌, ◌*◌, ◌^◌, ◌<◌, ◌≤◌, true, false, ◌&&◌, [], ◌∷◌, ◌++◌, length, get_or, take, drop, refl, sym, ap, subst, ◌∙◌, arith}
-use Rattle.std.specs.Prelude.{is_some, slice_index_or}
-use Rattle.std.proofs.lemmas.List.{take_more}
-use Rattle.model_sets.specs.Members.{members, is_among}
-use Rattle.param_tables.specs.Places.{IsPlaceOf, are_members}
+use Rattle.param_tables.proofs.Common.{◌≡◌, ℕ, ◌+◌, ◌*◌, ◌^◌, ◌<◌, ◌≤◌, true, false, ◌&&◌, [], ◌∷◌, ◌++◌, length, get_or, take, drop, refl, sym, ap, subst, ◌∙◌, arith, is_some, slice_index_or, take_more, members, is_among, IsPlaceOf, are_members}
 use Rattle.param_tables.proofs.PlaceLaws.{most, most-zero, most-four, small_more, members-most, place_none, place_step, index_of-found, is_some-index_of, are_members-more}
 use Rattle.param_tables.proofs.indices.place_of_value.Goals as goal
 

@@ -1,6 +1,4 @@
-use Rattle.std.proofs.Common.{◌≡◌, ◌<◌, take, drop, get_or}
-use Rattle.mathprog_data.specs.Meaning.{GivenValue}
-use Rattle.param_tables.specs.Places.{IsPlaceOf, are_members}
+use Rattle.param_tables.proofs.Common.{◌≡◌, ◌<◌, take, drop, get_or, GivenValue, IsPlaceOf, are_members}
 use Rattle.param_tables.proofs.PlaceLaws.{most}
 use Rattle.param_tables.proofs.indices.place_of_value.Given as goal
 

@@ -1,6 +1,4 @@
-use Rattle.std.proofs.Common.{◌≡◌, ◌+◌, ◌*◌, ◌<◌, ◌≤◌, get_or, arith}
-use Rattle.std.proofs.lemmas.List.Elements.{Contains-get_or}
-use Rattle.param_tables.specs.RatioPlaces.{region_size}
+use Rattle.param_tables.proofs.Common.{◌≡◌, ◌+◌, ◌*◌, ◌<◌, ◌≤◌, get_or, arith, Contains-get_or, region_size}
 use Rattle.param_tables.proofs.listed.listed_indices.Goals as goal
 
 pub overflow_sub-place : goal.overflow_sub-place

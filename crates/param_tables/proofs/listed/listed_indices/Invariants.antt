@@ -1,5 +1,4 @@
-use Rattle.std.proofs.Common.{◌≡◌, ◌-◌, map, take}
-use Rattle.param_tables.specs.RatioPlaces.{index_at_offset}
+use Rattle.param_tables.proofs.Common.{◌≡◌, ◌-◌, map, take, index_at_offset}
 use Rattle.param_tables.proofs.listed.listed_indices.Given as goal
 
 abbrev pub invariant-loop-place : goal.invariant-loop-place

@@ -1,11 +1,9 @@
 -- Over the smaller denominator it is the same fraction.
-use Rattle.std.proofs.Common.{◌≡◌, ℕ, ◌*◌, ◌/◌, ◌%◌, pos, ap, ◌∙◌, arith, to_z, of_z}
-use Rattle.std.specs.Int.{w128}
+use Rattle.param_tables.proofs.Common.{◌≡◌, ℕ, ◌*◌, ◌/◌, ◌%◌, pos, ap, ◌∙◌, arith, to_z, of_z, w128, billion}
 use Rattle.exact_num.specs.Range.{InRange}
 use Rattle.exact_num.specs.Rational.{lowest}
 use Rattle.exact_num.proofs.RangeLaws.{back_in_range}
 use Rattle.exact_num.proofs.RationalLaws.{lowest_same}
-use Rattle.param_tables.specs.Ranges.{billion}
 use Rattle.param_tables.proofs.model_data.narrow_amount.Goals as goal
 
 whole : (v : ℕ) → v % 1000000000 ≡ 0 → lowest (pos (v / 1000000000)) (pos 1) ≡ lowest (pos v) (pos billion)

@@ -1,9 +1,4 @@
-use Rattle.std.proofs.Common.{◌≡◌, ◌+◌, ◌-◌, ◌*◌, ◌/◌, ◌<◌, ◌≤◌, get_or, map, nat_eq, ap, ◌∙◌, subst, arith}
-use Rattle.std.specs.List.{dedup}
-use Rattle.std.proofs.lemmas.List.{take_all}
-use Rattle.std.proofs.lemmas.List.Elements.{Contains-get_or}
-use Rattle.std.proofs.lemmas.List.Filters.{dedup_is}
-use Rattle.param_tables.specs.RatioPlaces.{IsPartBetween}
+use Rattle.param_tables.proofs.Common.{◌≡◌, ◌+◌, ◌-◌, ◌*◌, ◌/◌, ◌<◌, ◌≤◌, get_or, map, nat_eq, ap, ◌∙◌, subst, arith, dedup, take_all, Contains-get_or, dedup_is, IsPartBetween}
 use Rattle.param_tables.proofs.IndexLaws.{IsPart, parts}
 use Rattle.param_tables.proofs.SearchLaws.{blocks_from}
 use Rattle.param_tables.proofs.place_search.blocks_with_place.Goals as goal

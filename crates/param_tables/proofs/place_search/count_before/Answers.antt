@@ -1,7 +1,4 @@
-use Rattle.std.proofs.Common.{◌<◌, ◌≤◌, get_or, arith}
-use Rattle.std.specs.Prelude.{Ok, Err}
-use Rattle.std.proofs.lemmas.List.Sorted.{searched}
-use Rattle.std.proofs.lemmas.Map.Keys.{below_from_sorted, sorted_from_strictly_increasing}
+use Rattle.param_tables.proofs.Common.{◌<◌, ◌≤◌, get_or, arith, Ok, Err, searched, below_from_sorted, sorted_from_strictly_increasing}
 use Rattle.param_tables.proofs.EntryLaws.{rising_all}
 use Rattle.param_tables.proofs.place_search.count_before.Goals as goal
 

@@ -1,8 +1,4 @@
-use Rattle.std.proofs.Common.{◌≡◌, map, nat_eq, ap, ◌∙◌}
-use Rattle.std.specs.List.{dedup}
-use Rattle.std.proofs.lemmas.List.{take_all}
-use Rattle.std.proofs.lemmas.List.Filters.{dedup_is}
-use Rattle.param_tables.specs.RatioPlaces.{regrouped}
+use Rattle.param_tables.proofs.Common.{◌≡◌, map, nat_eq, ap, ◌∙◌, dedup, take_all, dedup_is, regrouped}
 use Rattle.param_tables.proofs.NonzeroLaws.{grouped_from}
 use Rattle.param_tables.proofs.ratio_places.grouped_places.Goals as goal
 

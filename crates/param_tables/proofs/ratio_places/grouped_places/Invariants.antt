@@ -1,5 +1,4 @@
-use Rattle.std.proofs.Common.{◌≡◌, map, take}
-use Rattle.param_tables.specs.RatioPlaces.{regrouped}
+use Rattle.param_tables.proofs.Common.{◌≡◌, map, take, regrouped}
 use Rattle.param_tables.proofs.ratio_places.grouped_places.Given as goal
 
 abbrev pub invariant-loop-place : goal.invariant-loop-place

@@ -1,7 +1,5 @@
-use Rattle.std.proofs.Common.{◌≡◌, ℕ, ◌<◌, List, [], ◌∷◌, ◌++◌, length, get_or, sym, ap, ◌∙◌, subst}
+use Rattle.param_tables.proofs.Common.{◌≡◌, ℕ, ◌<◌, List, [], ◌∷◌, ◌++◌, length, get_or, sym, ap, ◌∙◌, subst, is_given_nonzero, is_nonzero_value, entries_of}
 use Rattle.std.specs.Prelude.{slice_get}
-use Rattle.param_tables.specs.RatioPlaces.{is_given_nonzero, is_nonzero_value}
-use Rattle.param_tables.specs.Tables.{entries_of}
 use Rattle.param_tables.proofs.EntryLaws.{copied_at}
 use Rattle.param_tables.proofs.NonzeroLaws.{filter_kept, filter_left, nonzero_at_place}
 use Rattle.param_tables.proofs.ratio_places.nonzero_places.Goals as goal

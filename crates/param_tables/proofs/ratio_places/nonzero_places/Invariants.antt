@@ -1,7 +1,4 @@
-use Rattle.std.proofs.Common.{◌≡◌, take}
-use Rattle.std.specs.Prelude.{filter}
-use Rattle.param_tables.specs.RatioPlaces.{is_given_nonzero}
-use Rattle.param_tables.specs.Tables.{entries_of}
+use Rattle.param_tables.proofs.Common.{◌≡◌, take, filter, is_given_nonzero, entries_of}
 use Rattle.param_tables.proofs.ratio_places.nonzero_places.Given as goal
 
 abbrev pub invariant-loop-i : goal.invariant-loop-i

@@ -1,9 +1,4 @@
-use Rattle.std.proofs.Common.{◌≡◌, ◌-◌, ◌≤◌, length, get_or, sym, ap, ◌∙◌, subst, arith}
-use Rattle.model_sets.specs.Data.{indices_of}
-use Rattle.model_sets.specs.Names.{IsSet, region}
-use Rattle.param_tables.specs.RatioPlaces.{ratio_sizes, region_size}
-use Rattle.param_tables.specs.Ratios.{count_in, ratio_param}
-use Rattle.param_tables.specs.Tables.{IsTable}
+use Rattle.param_tables.proofs.Common.{◌≡◌, ◌-◌, ◌≤◌, length, get_or, sym, ap, ◌∙◌, subst, arith, indices_of, IsSet, region, ratio_sizes, region_size, count_in, ratio_param, IsTable}
 use Rattle.param_tables.proofs.PlaceLaws.{members-most}
 use Rattle.param_tables.proofs.RatioFacts.{ratio_is_usable}
 use Rattle.param_tables.proofs.RatioPlaceLaws.{places_below}

@@ -1,9 +1,5 @@
 use Rattle.std.proofs.Common.{◌≡◌, ◌+◌, ◌-◌, ◌<◌, [], ◌∷◌, ◌++◌, None, length, get_or, take, set as with_at, sym, ap, subst, ◌∙◌}
-use Rattle.std.proofs.lemmas.List.{set-set, take_more}
-use Rattle.std.proofs.lemmas.Result.{err_from_is_err_and}
-use Rattle.model_sets.specs.Members.{members}
-use Rattle.param_tables.specs.InTurn.{first_of}
-use Rattle.param_tables.specs.SetRefusals.{member_refusals, refusal_after, IsSetFailDue}
+use Rattle.param_tables.proofs.Common.{set-set, take_more, err_from_is_err_and, members, first_of, member_refusals, refusal_after, IsSetFailDue}
 use Rattle.param_tables.proofs.SetLaws.{members-set, free_after, refused_after, due_first}
 use Rattle.param_tables.proofs.TurnLaws.{in_turn_free, in_turn_refused}
 use Rattle.param_tables.proofs.set_members.add_members.Goals as goal

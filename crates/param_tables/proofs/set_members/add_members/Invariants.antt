@@ -1,7 +1,6 @@
-use Rattle.std.proofs.Common.{◌≡◌, ◌-◌, take}
+use Rattle.param_tables.proofs.Common.{◌≡◌, ◌-◌, take, member_refusals, refusal_after}
 use Rattle.std.proofs.Common.{set as with_at}
 use Rattle.param_tables.proofs.TurnLaws.{in_turn_from}
-use Rattle.param_tables.specs.SetRefusals.{member_refusals, refusal_after}
 use Rattle.param_tables.proofs.set_members.add_members.Given as goal
 
 abbrev pub invariant-loop-name : goal.invariant-loop-name

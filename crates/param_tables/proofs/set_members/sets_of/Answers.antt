@@ -1,14 +1,5 @@
 use Rattle.std.proofs.Common.{◌≡◌, ◌≢◌, ℕ, ◌+◌, ◌-◌, ◌<◌, ◌≤◌, [], Some, length, get_or, set as with_at, sym, ap, subst, ◌∙◌, inl, inr, arith}
-use Rattle.std.proofs.lemmas.Bool.{cases_eq, cases_lt}
-use Rattle.std.proofs.lemmas.List.{get_or-replicate, get_or_past, get_or-set_same, get_or-set_other, length-set}
-use Rattle.std.proofs.lemmas.Result.{err_from_is_err_and}
-use Rattle.std.specs.Option.{option_map}
-use Rattle.model_sets.specs.Members.{no_members, empty_set}
-use Rattle.model_sets.specs.Names.{IsSet, set_count}
-use Rattle.param_tables.specs.BlockData.{members_told, set_lists}
-use Rattle.param_tables.specs.InTurn.{first_of}
-use Rattle.param_tables.specs.SetRefusals.{fault_in, member_refusals, first_set_refusal, IsSetFailDue}
-use Rattle.mathprog_data.specs.BlocksView.{blocks_told, sets_told}
+use Rattle.param_tables.proofs.Common.{cases_eq, cases_lt, get_or-replicate, get_or_past, get_or-set_same, get_or-set_other, length-set, err_from_is_err_and, option_map, no_members, empty_set, IsSet, set_count, members_told, set_lists, first_of, fault_in, member_refusals, first_set_refusal, IsSetFailDue, blocks_told, sets_told}
 use Rattle.param_tables.proofs.SetLaws.{due_first, sets_told_of, refusals_from, refusals_none, refusals_more, refused_here, refused_at_end, empty_is_set}
 use Rattle.param_tables.proofs.set_members.sets_of.Goals as goal
 

@@ -1,10 +1,5 @@
-use Rattle.std.proofs.Common.{◌≡◌, ℕ, ◌+◌, ◌-◌, ◌<◌, ◌≤◌, [], length, get_or}
-use Rattle.model_sets.specs.Names.{set_count}
-use Rattle.param_tables.specs.BlockData.{members_told}
-use Rattle.mathprog_data.specs.BlocksView.{blocks_told}
+use Rattle.param_tables.proofs.Common.{◌≡◌, ℕ, ◌+◌, ◌-◌, ◌<◌, ◌≤◌, [], length, get_or, set_count, members_told, blocks_told, set_refusals, set_lists}
 use Rattle.param_tables.proofs.SetLaws.{refusals_from}
-use Rattle.param_tables.specs.SetRefusals.{set_refusals}
-use Rattle.param_tables.specs.BlockData.{set_lists}
 use Rattle.param_tables.proofs.set_members.sets_of.Given as goal
 
 abbrev pub invariant-loop-set : goal.invariant-loop-set

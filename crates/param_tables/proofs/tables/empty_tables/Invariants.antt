@@ -1,5 +1,4 @@
-use Rattle.std.proofs.Common.{◌≡◌, ℕ, ◌<◌, length, get_or}
-use Rattle.param_tables.specs.declared.param_table.ParamTable.{ParamTable}
+use Rattle.param_tables.proofs.Common.{◌≡◌, ℕ, ◌<◌, length, get_or, ParamTable}
 use Rattle.param_tables.proofs.TableOfLaws.{IsEmptyTable}
 use Rattle.param_tables.proofs.tables.empty_tables.Given as goal
 

@@ -1,10 +1,4 @@
-use Rattle.std.proofs.Common.{sym, subst}
-use Rattle.std.proofs.lemmas.Result.{err_from_is_err_and}
-use Rattle.std.specs.BTreeMap.{get}
-use Rattle.std.specs.Ordering.{nat_cmp}
-use Rattle.param_tables.specs.InTurn.{first_of}
-use Rattle.mathprog_data.specs.BlocksView.{param_told}
-use Rattle.param_tables.specs.Stops.{IsStopDue}
+use Rattle.param_tables.proofs.Common.{sym, subst, err_from_is_err_and, get, nat_cmp, first_of, param_told, IsStopDue}
 use Rattle.param_tables.proofs.TableOfLaws.{table_of_given, used_refusals}
 use Rattle.param_tables.proofs.tables.table_of.Goals as goal
 

@@ -1,15 +1,5 @@
-use Rattle.std.proofs.Common.{◌≡◌, ℕ, ◌+◌, ◌-◌, ◌<◌, ◌≤◌, List, [], ◌++◌, length, get_or, set, take, sym, ap, ◌∙◌, subst, arith}
-use Rattle.std.specs.List.{flat_map}
-use Rattle.std.proofs.lemmas.List.{append-nil, get_or-map, length-map}
-use Rattle.std.proofs.lemmas.Result.{err_from_is_err_and}
+use Rattle.param_tables.proofs.Common.{◌≡◌, ℕ, ◌+◌, ◌-◌, ◌<◌, ◌≤◌, List, [], ◌++◌, length, get_or, set, take, sym, ap, ◌∙◌, subst, arith, flat_map, append-nil, get_or-map, length-map, err_from_is_err_and, param_count, data_of, first_of, value_refusals, param_told, params_told, AreTablesFor, AreParamBlocks, IsParamBlock}
 use Rattle.mathprog_data.specs.declared.blocks.ParamBlock.{ParamBlock as KeptParam}
-use Rattle.model_sets.specs.Params.{param_count}
-use Rattle.param_tables.specs.BlockData.{data_of}
-use Rattle.param_tables.specs.InTurn.{first_of}
-use Rattle.param_tables.specs.Refusals.{value_refusals}
-use Rattle.mathprog_data.specs.BlocksView.{param_told, params_told}
-use Rattle.param_tables.specs.Tables.{AreTablesFor}
-use Rattle.mathprog_data.specs.WellFormed.{AreParamBlocks, IsParamBlock}
 use Rattle.param_tables.proofs.TableOfLaws.{stop_first, tables_more, tables_unused, unused_refusals}
 use Rattle.param_tables.proofs.TurnLaws.{rest_free, rest_refused}
 use Rattle.param_tables.proofs.tables.tables_of.Goals as goal

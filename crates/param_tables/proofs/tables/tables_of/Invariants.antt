@@ -1,9 +1,4 @@
-use Rattle.std.proofs.Common.{◌≡◌, [], ◌++◌, take}
-use Rattle.std.specs.List.{flat_map}
-use Rattle.param_tables.specs.BlockData.{data_of}
-use Rattle.param_tables.specs.Refusals.{value_refusals}
-use Rattle.mathprog_data.specs.BlocksView.{params_told}
-use Rattle.param_tables.specs.Tables.{AreTablesFor}
+use Rattle.param_tables.proofs.Common.{◌≡◌, [], ◌++◌, take, flat_map, data_of, value_refusals, params_told, AreTablesFor}
 use Rattle.param_tables.proofs.TurnLaws.{rest_from}
 use Rattle.param_tables.proofs.tables.tables_of.Given as goal
 

@@ -1,8 +1,4 @@
-use Rattle.std.proofs.Common.{◌≡◌, ℕ, ◌<◌, false, length, sym, ap, ◌∙◌, subst, arith, inl, inr}
-use Rattle.std.proofs.lemmas.Bool.{cases_lt}
-use Rattle.model_sets.specs.Members.{SetLists, members}
-use Rattle.model_sets.specs.Names.{mode}
-use Rattle.param_tables.specs.Ratios.{count_in, is_ratio_nonzero}
+use Rattle.param_tables.proofs.Common.{◌≡◌, ℕ, ◌<◌, false, length, sym, ap, ◌∙◌, subst, arith, inl, inr, cases_lt, SetLists, members, mode, count_in, is_ratio_nonzero}
 use Rattle.param_tables.proofs.RatioFacts.{any_from_below, none_below}
 use Rattle.param_tables.proofs.tried.has_nonzero_mode.Goals as goal
 

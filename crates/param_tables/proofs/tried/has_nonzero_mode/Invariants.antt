@@ -1,5 +1,4 @@
-use Rattle.std.proofs.Common.{◌≡◌, ℕ, ◌<◌, false}
-use Rattle.param_tables.specs.Ratios.{is_ratio_nonzero}
+use Rattle.param_tables.proofs.Common.{◌≡◌, ℕ, ◌<◌, false, is_ratio_nonzero}
 use Rattle.param_tables.proofs.tried.has_nonzero_mode.Given as goal
 
 abbrev pub invariant-loop-mode : goal.invariant-loop-mode

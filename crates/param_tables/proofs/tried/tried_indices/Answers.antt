@@ -1,12 +1,4 @@
-use Rattle.std.proofs.Common.{◌≡◌, ◌≤◌, ◌≢◌, ◌+◌, ℕ, [], ◌∷◌, ◌++◌, length, map, take, sym, ap, ◌∙◌, arith}
-use Rattle.std.proofs.lemmas.List.{length-append, take_all}
-use Rattle.std.specs.Prelude.{filter}
-use Rattle.std.specs.List.{range_with_len}
-use Rattle.model_sets.specs.Data.{Data}
-use Rattle.param_tables.specs.Ratios.{is_nonzero_in, nonzero_indices}
-use Rattle.param_tables.specs.RatioPlaces.{index_at_offset, ratio_sizes, region_size}
-use Rattle.param_tables.specs.declared.ratio_sizes.RatioSizes.{RatioSizes}
-use Rattle.param_tables.specs.declared.ratios.ActivityRatio.{ActivityRatio}
+use Rattle.param_tables.proofs.Common.{◌≡◌, ◌≤◌, ◌≢◌, ◌+◌, ℕ, [], ◌∷◌, ◌++◌, length, map, take, sym, ap, ◌∙◌, arith, length-append, take_all, filter, range_with_len, Data, is_nonzero_in, nonzero_indices, index_at_offset, ratio_sizes, region_size, RatioSizes, ActivityRatio}
 use Rattle.param_tables.proofs.AscendingLaws.{mapped_first, mapped_kept, mapped_left}
 use Rattle.param_tables.proofs.RangeLists.{indices_by_place}
 use Rattle.param_tables.proofs.tried.tried_indices.Goals as goal

@@ -1,8 +1,4 @@
-use Rattle.std.proofs.Common.{◌≡◌, ◌≤◌, length, map}
-use Rattle.std.specs.Prelude.{filter}
-use Rattle.std.specs.List.{range_with_len}
-use Rattle.param_tables.specs.Ratios.{is_nonzero_in}
-use Rattle.param_tables.specs.RatioPlaces.{index_at_offset}
+use Rattle.param_tables.proofs.Common.{◌≡◌, ◌≤◌, length, map, filter, range_with_len, is_nonzero_in, index_at_offset}
 use Rattle.param_tables.proofs.tried.tried_indices.Given as goal
 
 -- those so far are found, and no more than are asked for

@@ -1,5 +1,4 @@
-use Rattle.std.proofs.Common.{ℕ, sym, ap, ◌∙◌}
-use Rattle.param_tables.specs.Ratios.{is_ratio_nonzero}
+use Rattle.param_tables.proofs.Common.{ℕ, sym, ap, ◌∙◌, is_ratio_nonzero}
 use Rattle.param_tables.proofs.AscendingLaws.{range_kept, range_left}
 use Rattle.param_tables.proofs.tried.tried_modes.Goals as goal
 use Rattle.param_tables.proofs.tried.tried_modes.Goals.{then-is_ratio_nonzero+in_ok-push, else-is_ratio_nonzero}

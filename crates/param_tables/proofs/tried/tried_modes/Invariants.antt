@@ -1,7 +1,4 @@
-use Rattle.std.proofs.Common.{◌≡◌}
-use Rattle.std.specs.Prelude.{filter}
-use Rattle.std.specs.List.{range_with_len}
-use Rattle.param_tables.specs.Ratios.{is_ratio_nonzero}
+use Rattle.param_tables.proofs.Common.{◌≡◌, filter, range_with_len, is_ratio_nonzero}
 use Rattle.param_tables.proofs.tried.tried_modes.Given as goal
 
 abbrev pub invariant-loop-mode : goal.invariant-loop-mode

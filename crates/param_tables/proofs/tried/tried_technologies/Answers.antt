@@ -1,5 +1,4 @@
-use Rattle.std.proofs.Common.{ℕ, sym, ap, ◌∙◌}
-use Rattle.param_tables.specs.Ratios.{has_nonzero_mode}
+use Rattle.param_tables.proofs.Common.{ℕ, sym, ap, ◌∙◌, has_nonzero_mode}
 use Rattle.param_tables.proofs.AscendingLaws.{range_kept, range_left}
 use Rattle.param_tables.proofs.tried.tried_technologies.Goals as goal
 use Rattle.param_tables.proofs.tried.tried_technologies.Goals.{then-has_nonzero_mode+in_ok-push, else-has_nonzero_mode}

@@ -1,7 +1,4 @@
-use Rattle.std.proofs.Common.{◌≡◌}
-use Rattle.std.specs.Prelude.{filter}
-use Rattle.std.specs.List.{range_with_len}
-use Rattle.param_tables.specs.Ratios.{has_nonzero_mode}
+use Rattle.param_tables.proofs.Common.{◌≡◌, filter, range_with_len, has_nonzero_mode}
 use Rattle.param_tables.proofs.tried.tried_technologies.Given as goal
 
 abbrev pub invariant-loop-technology : goal.invariant-loop-technology

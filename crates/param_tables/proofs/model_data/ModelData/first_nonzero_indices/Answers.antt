@@ -1,8 +1,4 @@
-use Rattle.std.proofs.Common.{◌≡◌, ◌-◌, false, get_or, take, sym, ap, ◌∙◌, subst}
-use Rattle.std.specs.List.Sorted.{IsStrictlyIncreasing}
-use Rattle.param_tables.specs.Built.{Built}
-use Rattle.param_tables.specs.RatioPlaces.{is_nonzero_value, places_of}
-use Rattle.param_tables.specs.Ratios.{nonzero_indices, ratio_param}
+use Rattle.param_tables.proofs.Common.{◌≡◌, ◌-◌, false, get_or, take, sym, ap, ◌∙◌, subst, IsStrictlyIncreasing, Built, is_nonzero_value, places_of, nonzero_indices, ratio_param}
 use Rattle.param_tables.proofs.RatioFacts.{in_order_rises, indices_found}
 use Rattle.param_tables.proofs.model_data.ModelData.first_nonzero_indices.Goals as goal
 

@@ -1,10 +1,4 @@
-use Rattle.std.proofs.Common.{◌≡◌, ℕ, ◌-◌, get_or, sym, ap, ◌∙◌, subst}
-use Rattle.std.specs.Prelude.{is_some}
-use Rattle.model_sets.specs.Data.{IsUsedParam}
-use Rattle.model_sets.specs.Params.{subscript_sets}
-use Rattle.param_tables.specs.Built.{Built, is_given}
-use Rattle.param_tables.specs.Places.{IsPlaceOf}
-use Rattle.param_tables.specs.Positions.{names_at, names_over}
+use Rattle.param_tables.proofs.Common.{◌≡◌, ℕ, ◌-◌, get_or, sym, ap, ◌∙◌, subst, is_some, IsUsedParam, subscript_sets, Built, is_given, IsPlaceOf, names_at, names_over}
 use Rattle.param_tables.proofs.ViewLaws.{given_kept}
 use Rattle.param_tables.proofs.model_data.ModelData.is_given.Goals as goal
 

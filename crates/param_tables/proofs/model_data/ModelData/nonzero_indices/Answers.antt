@@ -1,10 +1,5 @@
 -- No list is as long as the greatest number of indices that can be asked for.
-use Rattle.std.proofs.Common.{◌≡◌, ◌<◌, ℕ, List, length, take, inl, inr, ap, ◌∙◌, arith}
-use Rattle.std.proofs.lemmas.Bool.{cases_lt}
-use Rattle.std.proofs.lemmas.List.{length-take-le, take_all}
-use Rattle.std.proofs.lemmas.Result.{IfOk-weaker}
-use Rattle.param_tables.specs.Ratios.{nonzero_indices}
-use Rattle.param_tables.specs.declared.ratios.RatioIndex.{RatioIndex}
+use Rattle.param_tables.proofs.Common.{◌≡◌, ◌<◌, ℕ, List, length, take, inl, inr, ap, ◌∙◌, arith, cases_lt, length-take-le, take_all, IfOk-weaker, nonzero_indices, RatioIndex}
 use Rattle.param_tables.proofs.model_data.ModelData.nonzero_indices.Goals as goal
 
 -- fewer first ones than were asked for are all

@@ -1,8 +1,4 @@
-use Rattle.std.proofs.Common.{◌≡◌, ◌-◌, ◌*◌, false, get_or, sym, ap, ◌∙◌}
-use Rattle.std.proofs.lemmas.Result.{IfOk-weaker}
-use Rattle.param_tables.specs.Built.{Built}
-use Rattle.param_tables.specs.RatioPlaces.{AreBlocks, group_of, group_size, is_nonzero_value, places_of}
-use Rattle.param_tables.specs.Ratios.{nonzero_technologies, ratio_param}
+use Rattle.param_tables.proofs.Common.{◌≡◌, ◌-◌, ◌*◌, false, get_or, sym, ap, ◌∙◌, IfOk-weaker, Built, AreBlocks, group_of, group_size, is_nonzero_value, places_of, nonzero_technologies, ratio_param}
 use Rattle.param_tables.proofs.RatioFacts.{technologies_found}
 use Rattle.param_tables.proofs.model_data.ModelData.nonzero_technologies.Goals as goal
 

@@ -1,18 +1,5 @@
 -- The index by names stands at a place, and the table is the parameter's. A table without places says the same of every place.
-use Rattle.std.proofs.Common.{◌≡◌, ℕ, zero, suc, ◌+◌, ◌*◌, ◌-◌, ◌<◌, ◌≤◌, List, [], length, get_or, take, refl, sym, ap, ◌∙◌, subst, add-one, arith}
-use Rattle.std.specs.Prelude.{IsSomeAnd}
-use Rattle.std.proofs.lemmas.Bool.{eqb-true}
-use Rattle.std.proofs.lemmas.List.{nil_from_length, take_all}
-use Rattle.std.proofs.lemmas.Slice.Zip.{AllZip-long}
-use Rattle.model_sets.specs.Data.{IsUsedParam, value_at}
-use Rattle.model_sets.specs.Members.{SetLists, members}
-use Rattle.model_sets.specs.Params.{range_of, subscript_sets}
-use Rattle.param_tables.specs.Built.{Built, IsValueIn}
-use Rattle.param_tables.specs.Places.{IsPlaceOf}
-use Rattle.param_tables.specs.Positions.{ArePositions, names_at, names_over}
-use Rattle.param_tables.specs.Tables.{table_value, value_else}
-use Rattle.param_tables.specs.View.{facts_of}
-use Rattle.param_tables.specs.declared.param_table.ParamTable.{ParamTable}
+use Rattle.param_tables.proofs.Common.{◌≡◌, ℕ, zero, suc, ◌+◌, ◌*◌, ◌-◌, ◌<◌, ◌≤◌, List, [], length, get_or, take, refl, sym, ap, ◌∙◌, subst, add-one, arith, IsSomeAnd, eqb-true, nil_from_length, take_all, AllZip-long, IsUsedParam, value_at, SetLists, members, range_of, subscript_sets, Built, IsValueIn, IsPlaceOf, ArePositions, names_at, names_over, table_value, value_else, facts_of, ParamTable}
 use Rattle.param_tables.proofs.PlaceLaws.{place_none, place_step, position_within, names_over-more}
 use Rattle.param_tables.proofs.ViewLaws.{value_kept, value_complete}
 use Rattle.param_tables.proofs.model_data.ModelData.value.Goals as goal

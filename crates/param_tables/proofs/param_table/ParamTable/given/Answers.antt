@@ -1,10 +1,6 @@
 -- From the last place to the first, so that what is kept is what a look-up finds first.
 use Rattle.std.proofs.Common.{◌≡◌, ◌∙◌, ℕ, ◌+◌, ◌-◌, ◌<◌, List, ℤ, pos, Some, length, drop, nat_eq, sym, ap, ap₂, arith}
-use Rattle.std.specs.Prelude.{if◌then◌else◌}
-use Rattle.std.specs.Map.{lookup}
-use Rattle.std.specs.Ordering.{is_eq, nat_cmp}
-use Rattle.std.proofs.lemmas.List.{get_or_default}
-use Rattle.param_tables.specs.Tables.{entries_of, given_in}
+use Rattle.param_tables.proofs.Common.{if◌then◌else◌, lookup, is_eq, nat_cmp, get_or_default, entries_of, given_in}
 use Rattle.param_tables.proofs.ChangeLaws.{given_from, given_past}
 use Rattle.param_tables.proofs.param_table.ParamTable.given.Goals as goal
 

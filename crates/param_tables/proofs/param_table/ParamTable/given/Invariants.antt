@@ -1,8 +1,5 @@
 -- The values from this place of the list on are there.
-use Rattle.std.proofs.Common.{◌≡◌, ℕ, ◌≤◌, length, drop}
-use Rattle.std.specs.BTreeMap.{get}
-use Rattle.std.specs.Ordering.{nat_cmp}
-use Rattle.param_tables.specs.Tables.{entries_of, given_in}
+use Rattle.param_tables.proofs.Common.{◌≡◌, ℕ, ◌≤◌, length, drop, get, nat_cmp, entries_of, given_in}
 use Rattle.param_tables.proofs.param_table.ParamTable.given.Given as goal
 
 abbrev pub invariant-loop-i : goal.invariant-loop-i

@@ -1,5 +1,4 @@
-use Rattle.std.proofs.Common.{sym, ap, ◌∙◌}
-use Rattle.std.specs.Option.{option_and_then}
+use Rattle.param_tables.proofs.Common.{sym, ap, ◌∙◌, option_and_then}
 use Rattle.std.specs.Prelude.{slice_get}
 use Rattle.param_tables.proofs.EntryLaws.{copied_at, given_in-searched}
 use Rattle.param_tables.proofs.param_table.ParamTable.given_at.Goals as goal

@@ -1,7 +1,4 @@
-use Rattle.std.proofs.Common.{rules, ◌≡◌, sym, subst}
-use Rattle.std.specs.BTreeMap.{keys, values}
-use Rattle.std.specs.List.Sorted.{IsStrictlyIncreasing}
-use Rattle.std.proofs.lemmas.Map.Keys.{IsStrictlyIncreasing-from_sorted}
+use Rattle.param_tables.proofs.Common.{rules, ◌≡◌, sym, subst, keys, values, IsStrictlyIncreasing, IsStrictlyIncreasing-from_sorted}
 use Rattle.param_tables.proofs.EntryLaws.{given_in-columns}
 use Rattle.param_tables.proofs.param_table.ParamTable.new.Goals as goal
 

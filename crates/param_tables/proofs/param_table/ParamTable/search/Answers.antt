@@ -1,6 +1,4 @@
-use Rattle.std.proofs.Common.{ℕ, List, subst}
-use Rattle.std.specs.List.Sorted.{IsBinarySearchResult}
-use Rattle.std.specs.Ordering.{nat_cmp}
+use Rattle.param_tables.proofs.Common.{ℕ, List, subst, IsBinarySearchResult, nat_cmp}
 use Rattle.param_tables.proofs.param_table.ParamTable.search.Goals as goal
 
 pub returns : goal.returns

@@ -1,6 +1,4 @@
-use Rattle.std.proofs.Common.{◌*◌, ◌<◌, ◌∙◌, subst}
-use Rattle.param_tables.specs.RatioPlaces.{AreGrouped, is_given_nonzero, region_size}
-use Rattle.param_tables.specs.Tables.{entries_of}
+use Rattle.param_tables.proofs.Common.{◌*◌, ◌<◌, ◌∙◌, subst, AreGrouped, is_given_nonzero, region_size, entries_of}
 use Rattle.param_tables.proofs.NonzeroLaws.{below_kept, grouped_of}
 use Rattle.param_tables.proofs.ratio_places.RatioPlaces.new.Goals as goal
 

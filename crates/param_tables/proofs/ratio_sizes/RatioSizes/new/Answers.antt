@@ -1,6 +1,5 @@
 use Rattle.param_tables.proofs.PlaceLaws.{members-most}
-use Rattle.std.proofs.Common.{◌≤◌, length, arith}
-use Rattle.model_sets.specs.Members.{members}
+use Rattle.param_tables.proofs.Common.{◌≤◌, length, arith, members}
 use Rattle.param_tables.proofs.ratio_sizes.RatioSizes.new.Goals as goal
 
 pub returns-clause-small : goal.returns-clause-small
