@@ -9,7 +9,8 @@ Usage: bench/documents.py [--lines] [--no-runs]
 - Every crate is in the map of docs/CHANGING.md, and its table of crates is what bench/crates.py makes.
 - Every command of README.md, examples/README.md and docs/COMMANDS.md that works on a file of examples/ is run, and what is
   shown of its text compared; `..` stands for lines that are left out, and `| head -N` for the lines after the N-th. With
-  --no-runs none is run. Runs of `try` and of the gate take minutes, and are left out.
+  --no-runs none is run. Runs of `try` and of the gate take minutes, and are left out. What needs a tool that is missing, or a file
+  that such a command would have made, is noted and not run.
 
 Status 1 where a line was printed."""
 import os
@@ -25,6 +26,7 @@ import crates as crate_table
 
 TOP = crate_table.TOP
 FINDINGS = []
+NOT_MADE = set()  # files that commands would have made which weren't run, as a tool is missing
 SUFFIXES = r"\.(?:rt|antt|md|sh|py|dat|csv|txt|mod|edit)"
 SHOWN = ("README.md", "examples/README.md", "docs/COMMANDS.md")
 
@@ -182,13 +184,31 @@ def check_runs():
                 run_shown(document, number, commands, wanted, room)
 
 
+def made_by(command):
+    """The files that a command writes."""
+    return set(re.findall(r"(?:>|--write )\s*([\w./-]+)", command))
+
+
+def lacking_files(commands):
+    """Files that the commands need, and that nothing made."""
+    made, lacking = set(), set()
+    for command in commands:
+        lacking |= set(re.findall(r"[\w./-]+", command)) & (NOT_MADE - made) - made_by(command)
+        made |= made_by(command)
+    return lacking
+
+
 def run_shown(document, number, commands, wanted, room):
     if any(re.search(r"\b(try|rt|git)\b|model\.dat|[ab]\.dat\b|FILE|NAME", it) for it in commands):
         return
     lacking = {shlex.split(it)[0] for it in commands if not shutil.which(shlex.split(it)[0], path=f"{os.environ['PATH']}:{room}")}
+    lacking = lacking or lacking_files(commands)
+    made = set().union(*map(made_by, commands))
     if lacking:
         print(f"note: {document}:{number} isn't run: {', '.join(sorted(lacking))} is missing")
+        NOT_MADE.update(made)
         return
+    NOT_MADE.difference_update(made)
     ran = subprocess.run("\n".join(commands), shell=True, cwd=room, stdout=subprocess.PIPE, stderr=subprocess.PIPE, text=True)
     printed = ran.stdout.rstrip("\n").split("\n")
     cut = re.search(r"\| head -(\d+)$", commands[-1])
