@@ -21,7 +21,7 @@ pub struct Conflict {
 /// Why no answer is found.
 #[derive(Clone, Copy, PartialEq, Eq)]
 pub enum ExplainFail {
-    /// The first trial that stops does so for this reason.
+    /// A trial stops for this reason: by the exact method the first one that does.
     Stopped(Stop),
     /// Memory ran out.
     Memory,

@@ -1,4 +1,4 @@
-// The answers for what the trials found, and for the first that stopped.
+// The answers for what the trials found, and for one that stopped.
 ghost use Rattle.std.specs.Prelude.{◌≡◌, IfOk, IfSome};
 ghost use Rattle.command_answers.specs.declared.status.Status.{Status};
 ghost use Rattle.command_answers.specs.CheckedPlans.{IsListedBook};
