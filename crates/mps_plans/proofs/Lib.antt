@@ -1,4 +1,3 @@
-pub mod AcceptedData
 pub mod AcceptedNames
 pub mod Counts
 pub mod Law

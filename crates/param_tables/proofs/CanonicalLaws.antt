@@ -12,8 +12,7 @@ use Rattle.model_sets.specs.Data.{AreSameData, Data, Default, Given, IsUsedParam
 use Rattle.model_sets.specs.Members.{SetLists}
 use Rattle.model_sets.specs.Params.{is_used, param_at, param_count}
 use Rattle.param_tables.specs.Canonical.{canonical, defaults_in_order, given_in_order, given_value, values_for}
-use Rattle.param_tables.specs.Built.{AreGivenAlike}
-use Rattle.param_tables.specs.SameData.{GiveTheSame}
+use Rattle.param_tables.specs.SameData.{AreGivenAlike, GiveTheSame}
 use Rattle.param_tables.proofs.AscendingLaws.{contains_cases, contains_filter, contains_from_filter, contains_later}
 use Rattle.param_tables.proofs.DataLaws.{option_or-map}
 use Rattle.param_tables.proofs.GivenLaws.{names_same}
@@ -171,10 +170,3 @@ canonical_same d = record { sets = refl; second = refl; values = λ p used index
 
 pub canonical_alike : (d : Data) → AreGivenAlike d (canonical d)
 canonical_alike d = record { each = λ p used index has. ap is_some (sym (given_canonical d p index has used)) }
-
--- and the other way round
-pub same_canonical : (d : Data) → AreSameData (canonical d) d
-same_canonical d = record { sets = refl; second = refl; values = λ p used index has. value_canonical d p used index has }
-
-pub alike_canonical : (d : Data) → AreGivenAlike (canonical d) d
-alike_canonical d = record { each = λ p used index has. ap is_some (given_canonical d p index has used) }

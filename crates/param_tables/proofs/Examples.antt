@@ -7,12 +7,13 @@ use Rattle.mathprog_data.specs.declared.blocks.Mark.{Mark}
 use Rattle.model_sets.specs.declared.fault.SetFault.{SetFault}
 use Rattle.model_sets.specs.Data.{value_at}
 use Rattle.param_tables.specs.BlockData.{data_told, set_lists}
-use Rattle.param_tables.specs.Built.{AreGivenAlike, is_given}
+use Rattle.param_tables.specs.Built.{is_given}
 use Rattle.param_tables.specs.Canonical.{canonical, defaults_in_order, given_in_order}
 use Rattle.param_tables.specs.Positions.{names_at}
 use Rattle.param_tables.specs.Ranges.{whole}
 use Rattle.model_sets.specs.Names.{set_word}
 use Rattle.model_sets.specs.Params.{param_word}
+use Rattle.param_tables.specs.SameData.{AreGivenAlike}
 use Rattle.param_tables.specs.Ratios.{commodity, ratio_param}
 use Rattle.param_tables.specs.declared.ratios.ActivityRatio.TheVariants.{Input, Output, Emission}
 use Rattle.param_tables.specs.Refusals.{Refusal, storage, StorageMember, UnknownName, GivenBefore, AtIndex, first_refusal}
