@@ -2,7 +2,6 @@
 // can't be made.
 ghost use Rattle.std.specs.Prelude.{IfOk, option_map};
 ghost use Rattle.discount_factors.specs.Factors.{IsPlaces};
-ghost use Rattle.model_sets.specs.Data.{AreSameData, Data};
 ghost use Rattle.check_command.specs.Check.{DueForCheck};
 
 use crate::files::answer_plan_file;
@@ -27,8 +26,8 @@ pub fn answer_check(
     claim: Claim<'_, '_>,
 ) -> Result<Answer, AllocError>
     requires { IsPlaces places }
-    ensures { (d : Data) → AreSameData model.now.facts d → IfOk result (λ answer.
-        DueForCheck places claim.entry.plan.now (option_map (λ text. text.now) claim.entry.multipliers) claim.entry.gap d answer.status answer.text.items) }
+    ensures { IfOk result (λ answer.
+        DueForCheck places claim.entry.plan.now (option_map (λ text. text.now) claim.entry.multipliers) claim.entry.gap model.now.facts answer.status answer.text.items) }
 {
     match made_book(alloc, model, places)? {
         Ok(book) => answer_plan_file(alloc, &book, model.sets(), claim),

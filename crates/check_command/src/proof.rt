@@ -1,7 +1,7 @@
 // What `check` answers of a proof: the first rule that its file breaks, or what the checks say of it.
 ghost use Rattle.std.specs.Prelude.{◌≡◌, ℕ, IfOk};
 ghost use Rattle.discount_factors.specs.Factors.{IsPlaces};
-ghost use Rattle.model_sets.specs.Data.{AreSameData, Data};
+ghost use Rattle.model_sets.specs.Data.{Data};
 ghost use Rattle.model_sets.specs.Members.{SetLists};
 ghost use Rattle.mps_writer.specs.MpsText.{line};
 ghost use Rattle.command_answers.specs.CheckedPlans.{IsBookOf, IsListedBook, NoneIsFeasible};
@@ -34,7 +34,7 @@ pub fn answer_proof(
     gap: u32,
 ) -> Result<Answer, AllocError>
     requires { IsPlaces places }
-    ensures { (d : Data) → AreSameData model.now.facts d → IfOk result (λ answer. DueForProof places proof.now gap d answer.status answer.text.items) }
+    ensures { IfOk result (λ answer. DueForProof places proof.now gap model.now.facts answer.status answer.text.items) }
 {
     match made_book(alloc, model, places)? {
         Ok(book) => answer_proof_file(alloc, &book, model.sets(), proof, gap),

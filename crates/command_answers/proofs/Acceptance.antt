@@ -5,6 +5,7 @@ use Rattle.mathprog_data.specs.Verdicts.{FaultAt, Says}
 use Rattle.mathprog_data.specs.declared.blocks.Mark.{Mark}
 use Rattle.model_sets.specs.Data.{Data}
 use Rattle.param_tables.specs.BlockData.{data_told}
+use Rattle.param_tables.specs.Canonical.{canonical}
 use Rattle.param_tables.specs.Refusals.{first_refusal}
 use Rattle.param_tables.specs.SetRefusals.{first_set_refusal}
 use Rattle.command_answers.specs.declared.status.Status.{Status}
@@ -19,7 +20,7 @@ pub record ReaderLaws : Type 0 where
   pub not_both : (text : List ℕ) (blocks : Blocks) (number : ℕ) (at : Mark) → Says text blocks → FaultAt text number at → ⊥
 
 pub one_data : ReaderLaws → (text : List ℕ) (d e : Data) → Accepted text d → Accepted text e → d ≡ e
-one_data laws text d e a b = a.told ∙ ap data_told (laws.one_reading text a.blocks b.blocks a.says b.says) ∙ sym b.told
+one_data laws text d e a b = a.told ∙ ap (λ blocks. canonical (data_told blocks)) (laws.one_reading text a.blocks b.blocks a.says b.says) ∙ sym b.told
 
 some_or_none : {A : Type 0} {o : Option A} {x : A} → o ≡ Some x → o ≡ None → ⊥
 some_or_none e f = cc (e, f)

@@ -3,6 +3,7 @@ use Rattle.std.proofs.Common.{[], ◌∷◌, ◌++◌, map, false, refl, arith}
 use Rattle.std.specs.Fmt.{digits}
 use Rattle.std.specs.List.{enumerate_from}
 use Rattle.model_sets.specs.Data.{Data}
+use Rattle.param_tables.specs.Canonical.{defaults_in_order, given_in_order}
 use Rattle.command_answers.specs.Accepted.{Accepted}
 use Rattle.command_answers.proofs.AcceptedText.{text, members, values, blocks, says}
 
@@ -16,5 +17,5 @@ model = record {
 }
 
 pub accepted : Accepted text model
-unfolding text digits
+unfolding text digits given_in_order defaults_in_order
 accepted = record { blocks = blocks; short = omega arith; says = says; sets_accepted = refl; data_accepted = refl; told = refl }

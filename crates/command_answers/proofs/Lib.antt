@@ -1,5 +1,6 @@
 pub mod Acceptance
 pub mod AcceptedExample
+pub mod AcceptedData
 pub mod AcceptedText
 pub mod BookEnds
 pub mod CheckedRows
@@ -13,7 +14,6 @@ pub mod ListedNames
 pub mod MadeBooks
 mod MemberNames
 pub mod PlanCosts
-pub mod SameData
 pub mod SolvedRows
 pub mod KeptPlaces
 pub mod BookLists

@@ -4,10 +4,11 @@ ghost use Rattle.mathprog_data.specs.BlocksView.{blocks_told};
 ghost use Rattle.mathprog_data.specs.Pieces.{StandsFor};
 ghost use Rattle.mathprog_data.specs.Verdicts.{FaultAt, Says};
 ghost use Rattle.mathprog_data.specs.WellFormed.{AreWellFormed};
-ghost use Rattle.model_sets.specs.Data.{AreSameData, Data};
+ghost use Rattle.model_sets.specs.Data.{Data};
 ghost use Rattle.model_sets.specs.Names.{IsSet};
 ghost use Rattle.param_tables.specs.BlockData.{data_told, set_lists};
-ghost use Rattle.param_tables.specs.Built.{AreGivenAlike};
+ghost use Rattle.param_tables.specs.Built.{AreComplete};
+ghost use Rattle.param_tables.specs.Canonical.{canonical};
 ghost use Rattle.param_tables.specs.Refusals.{first_refusal};
 ghost use Rattle.param_tables.specs.SetRefusals.{first_set_refusal};
 ghost use Rattle.param_tables.specs.Told.{NamesCell, refusal_told};
@@ -30,8 +31,7 @@ use std::alloc::{AllocError, Global};
 pub fn accept(alloc: Global, text: Vec<u8>) -> Result<Result<ModelData, Answer>, AllocError>
     requires { length text.items ≤ most_bytes }
     ensures { IfOk result (λ verdict. MatchResult verdict
-        (λ model. (d : Data) × (accepted : Accepted text.items d) × AreSameData model.facts d × (model.rounded ≡ accepted.blocks.rounded)
-        × AreGivenAlike model.facts d)
+        (λ model. (accepted : Accepted text.items model.facts) × (model.rounded ≡ accepted.blocks.rounded))
         (λ answer. DueWhereNotAccepted text.items answer.status answer.text.items)) }
 {
     let reader = read_text(alloc, text)?;
@@ -47,8 +47,7 @@ pub fn accept_read(
 ) -> Result<Result<ModelData, Answer>, AllocError>
     requires { (text : List ℕ) × StandsFor reader text }
     ensures { (text : List ℕ) → StandsFor reader text → length text ≤ most_bytes → IfOk result (λ verdict. MatchResult verdict
-        (λ model. (d : Data) × (accepted : Accepted text d) × AreSameData model.facts d × (model.rounded ≡ accepted.blocks.rounded)
-        × AreGivenAlike model.facts d)
+        (λ model. (accepted : Accepted text model.facts) × (model.rounded ≡ accepted.blocks.rounded))
         (λ answer. DueWhereNotAccepted text answer.status answer.text.items)) }
 {
     match end_reading(alloc, reader)? {
@@ -86,8 +85,7 @@ fn accept_blocks(alloc: Global, blocks: &Blocks) -> Result<Result<ModelData, Ans
     requires { AreWellFormed (blocks_told blocks.now) }
     ensures { IfOk result (λ verdict. MatchResult verdict
         (λ model. (first_set_refusal (blocks_told blocks.now) ≡ None) × (first_refusal (blocks_told blocks.now) ≡ None)
-        × AreSameData model.facts (data_told (blocks_told blocks.now)) × (model.rounded ≡ blocks.now.rounded)
-        × AreGivenAlike model.facts (data_told (blocks_told blocks.now)))
+        × (model.facts ≡ canonical (data_told (blocks_told blocks.now))) × (model.rounded ≡ blocks.now.rounded))
         (λ answer. RefusesBlocks (blocks_told blocks.now) answer.status answer.text.items)) }
 {
     match sets_of(alloc, blocks) {
@@ -107,8 +105,7 @@ fn accept_data(
     requires sets { sets ≡ set_lists (blocks_told blocks.now) }
     requires accepted { first_set_refusal (blocks_told blocks.now) ≡ None }
     ensures { IfOk result (λ verdict. MatchResult verdict
-        (λ model. (first_refusal (blocks_told blocks.now) ≡ None) × AreSameData model.facts (data_told (blocks_told blocks.now)) × (model.rounded ≡ blocks.now.rounded)
-        × AreGivenAlike model.facts (data_told (blocks_told blocks.now)))
+        (λ model. (first_refusal (blocks_told blocks.now) ≡ None) × (model.facts ≡ canonical (data_told (blocks_told blocks.now))) × (model.rounded ≡ blocks.now.rounded))
         (λ answer. RefusesData (blocks_told blocks.now) answer.status answer.text.items)) }
 {
     match build(alloc, blocks, sets) {
@@ -150,9 +147,11 @@ fn refuse_data(alloc: Global, fault: BuildFault, sets: &Sets) -> Result<Answer, 
     Ok(Answer { status, text })
 }
 
-/// Each text of at most 64 MiB has one data or one first refusal, whose line is one, and never both.
+/// Each text of at most 64 MiB has one data or one first refusal, whose line is one, and never both. The data are complete: their sets are
+/// by the rules, and each used parameter has a value in its range at each of its indices.
 pub fn acceptance_laws()
     ensures one_data { (text : List ℕ) (d e : Data) → Accepted text d → Accepted text e → d ≡ e }
+    ensures complete { (text : List ℕ) (d : Data) → Accepted text d → AreComplete d }
     ensures not_both { (text : List ℕ) (d : Data) (status : Status) (line : List ℕ) → Accepted text d → DueWhereNotAccepted text status line → ⊥ }
     ensures one_line { (text : List ℕ) (status other : Status) (line another : List ℕ) →
         DueWhereNotAccepted text status line → DueWhereNotAccepted text other another → line ≡ another }

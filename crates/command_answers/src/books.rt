@@ -1,7 +1,6 @@
 // The book of rows of a model, and the answers where the rows of the named equations can't be made, or are too many to be solved: the same for every command.
 ghost use Rattle.std.specs.Prelude.{◌≡◌, IfOk};
 ghost use Rattle.discount_factors.specs.Factors.{IsPlaces};
-ghost use Rattle.model_sets.specs.Data.{AreSameData, Data};
 ghost use Rattle.row_book.specs.Books.{NamesRowWithin};
 ghost use Rattle.command_answers.specs.BookFails.{TellsFail};
 ghost use Rattle.command_answers.specs.Limits.{TellsLimits};
@@ -24,15 +23,14 @@ const MOST_ROWS: u64 = 20_000;
 /// The most columns that it may have.
 const MOST_COLUMNS: u64 = 40_000;
 
-/// The book of rows of a model, with written factors of 6 or 9 decimal places, or the answer where a row can't be made. Either is that
-/// of any data that have the model's sets and values.
+/// The book of rows of a model, with written factors of 6 or 9 decimal places, or the answer where a row can't be made.
 pub fn made_book(
     alloc: Global,
     model: &ModelData,
     places: u8,
 ) -> Result<Result<RowBook, Answer>, AllocError>
     requires { IsPlaces places }
-    ensures { (d : Data) → AreSameData model.now.facts d → IfOk result (TellsMade places d) }
+    ensures { IfOk result (TellsMade places model.now.facts) }
 {
     match RowBook::new(alloc, model, places) {
         Ok(book) => Ok(Ok(book)),

@@ -1,20 +1,25 @@
 -- The book of the data with a limit: one that was made, or that of another limit with the limit's row renewed.
-use Rattle.std.proofs.Common.{◌≡◌, ℕ, ℤ, pos, map, sym, ap, ◌∙◌}
+use Rattle.std.proofs.Common.{◌≡◌, ℕ, ℤ, pos, map, sym, ap, ◌∙◌, subst}
 use Rattle.std.specs.Prelude.{◌≤ℤ◌}
 use Rattle.model_sets.specs.Data.{AreSameData, Data}
+use Rattle.model_sets.specs.Members.{SetLists}
+use Rattle.param_tables.specs.Canonical.{canonical}
+use Rattle.param_tables.proofs.CanonicalLaws.{canonical_same}
 use Rattle.row_core.specs.declared.RowName.{RowName}
 use Rattle.row_core.specs.declared.Var.{Var}
 use Rattle.row_core.specs.Numbers.{ascends}
 use Rattle.row_core.specs.Order.{var_cmp}
 use Rattle.named_equations.specs.Existence.{exists}
 use Rattle.named_equations.specs.Instances.{instances}
-use Rattle.named_equations.proofs.SameInstances.{back, same-says}
+use Rattle.named_equations.proofs.SameInstances.{back, same-exists, same-says}
 use Rattle.plan_files.specs.Listed.{name_of_row}
 use Rattle.row_book.specs.Books.{Book, HasStopped}
 use Rattle.row_book.specs.declared.fail.BookFail.{BookFail}
 use Rattle.row_book.specs.declared.fail.BookFail.TheVariants as fails
+use Rattle.row_book.proofs.SameRows as over_rows
 use Rattle.row_book.proofs.SameRows.{fits-same, is_named_row, same-many, same-terms, same-wide}
 use Rattle.row_book.proofs.Within.{names-of_rows}
+use Rattle.command_answers.specs.CheckedPlans.{IsListedBook}
 use Rattle.command_answers.specs.MadeBooks.{IsMadeBook}
 use Rattle.curve_command.specs.KeptRows.{IsRenewed}
 use Rattle.curve_command.specs.Limited.{limit_at, with_limit}
@@ -23,6 +28,22 @@ use Rattle.curve_command.proofs.LimitedLaws.{exists-alike, limit-instance, limit
 use Rattle.curve_command.proofs.RenewedLaws.{other-rows}
 
 -- ---- one that was made, or none
+
+-- data that are those with the limit in canonical form say the same
+pub as-limited : (changed limited : Data) → changed ≡ canonical limited → AreSameData changed limited
+as-limited changed limited is = back (subst (AreSameData limited) (sym is) (canonical_same limited))
+
+pub same-made : (places : ℕ) (d e : Data) → AreSameData d e → (book : Book) → IsMadeBook places d book → IsMadeBook places e book
+same-made places d e same book is = record {
+  made = (over_rows.same-made places d e same 0).0 is.made;
+  is_book = record {
+    are_rows = (over_rows.same-rows places d e same book.rows).0 is.is_book.are_rows;
+    ascending = is.is_book.ascending;
+    exist = λ v there. sym (same-exists d e same v) ∙ is.is_book.exist v there;
+    whole = λ v there. is.is_book.whole v (same-exists d e same v ∙ there);
+  };
+  listed = subst (λ (sets : SetLists). IsListedBook sets book.rows book.vars) same.sets is.listed;
+}
 
 pub same-stops : (places : ℕ) (d e : Data) → AreSameData d e → (fail : BookFail) → HasStopped places d 0 (instances d) fail → HasStopped places e 0 (instances e) fail
 same-stops places d e same (fails.Width place) stopped = (stopped.0, stopped.1, (same-wide places d e same 0 stopped.0).0 stopped.2)

@@ -1,6 +1,6 @@
 -- The data with a limit on the emissions of the model period in a region: the limit's value, and that all other values are as they were.
-use Rattle.std.proofs.Common.{◌≡◌, ◌≢◌, ℕ, ℤ, pos, negsuc, Bool, true, false, cond, List, [], ◌∷◌, nat_eq, Option, Some, refl, sym, ap, ap₂, ◌∙◌, subst, inl, inr, arith, eqb-true, true≢false, to_z, of_z}
-use Rattle.std.specs.Prelude.{◌≤ℤ◌, Contains, unwrap_or}
+use Rattle.std.proofs.Common.{◌≡◌, ◌≢◌, ℕ, ℤ, pos, negsuc, Bool, true, false, cond, List, [], ◌∷◌, nat_eq, Option, Some, refl, sym, ap, ap₂, ◌∙◌, inl, inr, arith, eqb-true, to_z, of_z}
+use Rattle.std.specs.Prelude.{◌≤ℤ◌, unwrap_or}
 use Rattle.std.specs.Cmp.Derive.{both_true}
 use Rattle.std.specs.Int.{w128}
 use Rattle.std.specs.List.{find}
@@ -9,11 +9,10 @@ use Rattle.std.proofs.lemmas.Bool.{and_parts, cases_Bool, false_from_ne_true}
 use Rattle.std.proofs.lemmas.Int.{ints}
 use Rattle.exact_num.proofs.RangeLaws.{back_in_range}
 use Rattle.command_words.specs.LimitLists.{IsLimit}
-use Rattle.model_sets.specs.Data.{AreSameData, Data, IsUsedParam, default_of, indices_of, is_given_at, value_at, value_of_none}
+use Rattle.model_sets.specs.Data.{Data, default_of, is_given_at, value_at, value_of_none}
 use Rattle.model_sets.specs.Members.{AreSets, SetLists}
 use Rattle.model_sets.specs.Names as sets
 use Rattle.model_sets.specs.declared.param_numbers.TheConstants.{MODEL_PERIOD_EMISSION_LIMIT}
-use Rattle.param_tables.specs.Changed.{AreDataWith}
 use Rattle.param_tables.proofs.GivenLaws.{names_same}
 use Rattle.param_tables.proofs.IndexLaws.{names_apart_from}
 use Rattle.row_core.specs.declared.Index.{Index}
@@ -90,33 +89,6 @@ module _ (d : Data) (r e : ℕ) (z : ℤ) where
       let subscripts : List ℕ = place.r ∷ place.e ∷ [] in
       let tidied : i ≡ at_re i.region i.emission = index-tidied d subscripts i (values-from_index d subscripts i within) in
       apart (ap (name_at E9) (tidied ∙ ap₂ at_re (sym one) (sym two))))))
-
-  -- ---- data of the model with the limit
-
-  -- data that are the model's but for the limit are the same as any data of the model with the limit
-  pub same-limited : (model changed : Data) → AreSameData model d → AreDataWith MODEL_PERIOD_EMISSION_LIMIT (limit_names model r e) z model changed → AreSameData changed limited
-  same-limited model changed same with = record { sets = with.sets ∙ same.sets; second = with.second ∙ same.second; values = values-alike }
-    where
-      names-are : limit_names d r e ≡ limit_names model r e
-      names-are = rw same.sets
-
-      values-alike : (param : ℕ) → IsUsedParam changed param → (index : List (List ℕ)) → Contains (indices_of changed.sets param) index → value_at changed param index ≡ value_at limited param index
-      values-alike param used index has = elim (cases_Bool (is_own param index)) [
-        | inl own ↦
-            let parts = own-parts param index own in
-            subst (λ p. value_at changed p index ≡ Some z) parts.0
-            (subst (λ i. value_at changed MODEL_PERIOD_EMISSION_LIMIT i ≡ Some z) (sym names-are ∙ parts.1) with.here)
-            ∙ sym (own-value param index own)
-        | inr other ↦
-            let used_before : IsUsedParam model param = (used.0, rw with.second at used.1) in
-            let has_before : Contains (indices_of model.sets param) index = rw with.sets at has in
-            with.elsewhere param used_before index has_before
-            (λ of_limit at_limit.
-            let own : is_own param index ≡ true = subst (λ p. is_own p index ≡ true) (sym of_limit) (subst (λ i. is_own MODEL_PERIOD_EMISSION_LIMIT i ≡ true) (names-are ∙ sym at_limit) own-itself) in
-            true≢false (sym own ∙ other))
-            ∙ same.values param used_before index has_before
-            ∙ sym (other-value param index other)
-      ]
 
 -- two limits that aren't negative have an equation at the same indices
 pub limits-stand : (d : Data) (r e : ℕ) (y z : ℤ) → pos 0 ≤ℤ y → pos 0 ≤ℤ z → (r' e' : ℕ)

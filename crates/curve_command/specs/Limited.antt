@@ -2,6 +2,7 @@
 use Rattle.std.specs.Prelude.{◌≡◌, ◌≢◌, ℕ, ◌<◌, ℤ, pos, ◌*ℤ◌, ◌≤ℤ◌, true, false, List, [], ◌∷◌}
 use Rattle.model_sets.specs.Data.{Data, Given}
 use Rattle.model_sets.specs.declared.param_numbers.TheConstants.{MODEL_PERIOD_EMISSION_LIMIT}
+use Rattle.param_tables.specs.Canonical.{given_value, with_given}
 use Rattle.row_core.specs.declared.RowName.{RowName}
 use Rattle.row_core.specs.declared.Var.{Var}
 use Rattle.row_core.specs.declared.equation_numbers.TheConstants.{E9}
@@ -23,11 +24,11 @@ limit_names d r e = region_name d r ∷ emission_name d e ∷ []
 
 -- the limit in the place of a value that is given
 abbrev pub given_limit : Data → ℕ → ℕ → ℤ → Given
-given_limit d r e z = record { param = MODEL_PERIOD_EMISSION_LIMIT; index = limit_names d r e; value = z }
+given_limit d r e z = given_value MODEL_PERIOD_EMISSION_LIMIT (limit_names d r e) z
 
 -- the data with so many billionths as that limit, which is given before all other values
 abbrev pub with_limit : Data → ℕ → ℕ → ℤ → Data
-with_limit d r e z = record { sets = d.sets; given = given_limit d r e z ∷ d.given; defaults = d.defaults; second = d.second }
+with_limit d r e z = with_given d MODEL_PERIOD_EMISSION_LIMIT (limit_names d r e) z
 
 -- The plan meets every named equation but E9 of the emission in the region; its emissions of the model period are at most a over b; and every variable that exists
 -- is at least 0 where its kind isn't free.

@@ -1,9 +1,9 @@
 // The rows of a trial. Of the data with one limit and with another all rows but that of the limit are the same, so they are made once.
-ghost use Rattle.std.specs.Prelude.{IfErr, IfOk, IfSome};
+ghost use Rattle.std.specs.Prelude.{◌≡◌, IfErr, IfOk, IfSome};
 ghost use Rattle.discount_factors.specs.Factors.{IsPlaces};
-ghost use Rattle.model_sets.specs.Data.{AreSameData, Data};
 ghost use Rattle.named_equations.specs.Instances.{instances};
 ghost use Rattle.param_tables.specs.Built.{AreComplete};
+ghost use Rattle.param_tables.specs.Canonical.{canonical};
 ghost use Rattle.row_book.specs.Books.{HasStopped, NamesRowWithin};
 ghost use Rattle.command_answers.specs.MadeBooks.{IsMadeBook};
 ghost use Rattle.curve_command.specs.KeptRows.{IsBookAtSome, IsLimitOf, IsMemberOf, IsRenewed, limit_of, limited};
@@ -24,9 +24,9 @@ pub fn limited_book(
 ) -> Result<RowBook, BookFail>
     requires places { IsPlaces places }
     requires limit { IsLimitOf model.now.facts.sets limit }
-    requires before { (d : Data) → AreSameData model.now.facts d → IfSome before (IsBookAtSome places d limit.member) }
-    ensures book { (d : Data) → AreSameData model.now.facts d → IfOk result (IsMadeBook places (limited d limit)) }
-    ensures stopped { (d : Data) → AreSameData model.now.facts d → IfErr result (HasStopped places (limited d limit) 0 (instances (limited d limit))) }
+    requires before { IfSome before (IsBookAtSome places model.now.facts limit.member) }
+    ensures book { IfOk result (IsMadeBook places (limited model.now.facts limit)) }
+    ensures stopped { IfErr result (HasStopped places (limited model.now.facts limit) 0 (instances (limited model.now.facts limit))) }
     ensures place { IfErr result (NamesRowWithin model.now.facts.sets) }
 {
     let limited = limited_model(alloc, model, limit)?;
@@ -44,7 +44,7 @@ pub fn limited_book(
 // The model with the limit in the place of its own.
 fn limited_model(alloc: Global, model: &ModelData, limit: Limit) -> Result<ModelData, AllocError>
     requires { IsLimitOf model.now.facts.sets limit }
-    ensures facts { (d : Data) → AreSameData model.now.facts d → IfOk result (λ changed. AreSameData changed.facts (limited d limit)) }
+    ensures facts { IfOk result (λ changed. changed.facts ≡ canonical (limited model.now.facts limit)) }
     ensures complete { IfOk result (λ changed. AreComplete changed.facts) }
 {
     let index = [limit.member.region, limit.member.emission];

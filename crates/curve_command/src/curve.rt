@@ -3,7 +3,6 @@ ghost use Rattle.std.specs.Prelude.{IfOk};
 ghost use Rattle.std.specs.List.{AllByRecursion};
 ghost use Rattle.command_words.specs.LimitLists.{IsLimit};
 ghost use Rattle.discount_factors.specs.Factors.{IsPlaces};
-ghost use Rattle.model_sets.specs.Data.{AreSameData, Data};
 ghost use Rattle.curve_command.specs.Curve.{DueForCurve, DueForLimits};
 ghost use Rattle.curve_command.specs.KeptRows.{IsMemberOf};
 
@@ -29,8 +28,8 @@ pub fn answer_curve(
 ) -> Result<Answer, AllocError>
     requires places { IsPlaces places }
     requires limits { AllByRecursion IsLimit limits.now }
-    ensures { (d : Data) → AreSameData model.now.facts d → IfOk result (λ answer.
-        DueForCurve places wanted (record { region = region.now; emission = emission.now }) limits.now d answer.status answer.text.items) }
+    ensures { IfOk result (λ answer.
+        DueForCurve places wanted (record { region = region.now; emission = emission.now }) limits.now model.now.facts answer.status answer.text.items) }
 {
     let region = match find_member(alloc, model.sets(), REGION, region)? {
         Ok(region) => region,
@@ -57,8 +56,8 @@ fn answer_limits(
     requires places { IsPlaces places }
     requires member { IsMemberOf model.now.facts.sets member }
     requires limits { AllByRecursion IsLimit limits.now }
-    ensures { (d : Data) → AreSameData model.now.facts d → IfOk result (λ answer.
-        DueForLimits places d member.region member.emission wanted limits.now answer.status answer.text.items) }
+    ensures { IfOk result (λ answer.
+        DueForLimits places model.now.facts member.region member.emission wanted limits.now answer.status answer.text.items) }
 {
     match trials(alloc, model, places, member, limits, wanted, watcher)? {
         Outcome::Ended(all) => {

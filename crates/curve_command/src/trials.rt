@@ -3,7 +3,6 @@ ghost use Rattle.std.specs.Prelude.{◌≡◌, IfOk, IfSome};
 ghost use Rattle.std.specs.List.{AllByRecursion};
 ghost use Rattle.command_words.specs.LimitLists.{IsLimit};
 ghost use Rattle.discount_factors.specs.Factors.{IsPlaces};
-ghost use Rattle.model_sets.specs.Data.{AreSameData, Data};
 ghost use Rattle.row_book.specs.Books.{NamesRowWithin};
 ghost use Rattle.curve_command.specs.KeptRows.{IsBookAtSome, IsLimitOf, IsMemberOf, limit_of};
 ghost use Rattle.curve_command.specs.Outcomes.{FailTells, OutcomeTells, TriedTells};
@@ -88,7 +87,7 @@ pub fn trials(
     requires places { IsPlaces places }
     requires member { IsMemberOf model.now.facts.sets member }
     requires limits { AllByRecursion IsLimit limits.now }
-    ensures { (d : Data) → AreSameData model.now.facts d → IfOk result (OutcomeTells places d member wanted limits.now) }
+    ensures { IfOk result (OutcomeTells places model.now.facts member wanted limits.now) }
 {
     let mut all = Vec::with_capacity(alloc, limits.len())?;
     let mut book = None;
@@ -126,8 +125,8 @@ fn limit_trial(
 ) -> Result<Tried, AllocError>
     requires places { IsPlaces places }
     requires limit { IsLimitOf model.now.facts.sets limit }
-    requires before { (d : Data) → AreSameData model.now.facts d → IfSome before (IsBookAtSome places d limit.member) }
-    ensures { (d : Data) → AreSameData model.now.facts d → IfOk result (TriedTells places d limit wanted) }
+    requires before { IfSome before (IsBookAtSome places model.now.facts limit.member) }
+    ensures { IfOk result (TriedTells places model.now.facts limit wanted) }
 {
     watcher.see(Stage::Rows);
     match limited_book(alloc, model, places, limit, before) {

@@ -2,7 +2,7 @@
 ghost use Rattle.std.specs.Prelude.{◌≡◌, ℕ, None, IfOk, IfSome};
 ghost use Rattle.exact_num.specs.Steps.{first_wide};
 ghost use Rattle.discount_factors.specs.Factors.{IsPlaces};
-ghost use Rattle.model_sets.specs.Data.{AreSameData, Data};
+ghost use Rattle.model_sets.specs.Data.{Data};
 ghost use Rattle.written_method.specs.Eliminated.{elimination_steps};
 ghost use Rattle.command_answers.specs.BookPrograms.{IsProgramOf};
 ghost use Rattle.command_answers.specs.CheckedPlans.{IsBookOf, IsListedBook};
@@ -41,8 +41,8 @@ pub fn answer_explain(
     watcher: &mut dyn Watcher,
 ) -> Result<Answer, AllocError>
     requires { IsPlaces places }
-    ensures { (d : Data) → AreSameData model.now.facts d → IfOk result (λ answer.
-        DueForExplain places wanted d answer.status answer.text.items) }
+    ensures { IfOk result (λ answer.
+        DueForExplain places wanted model.now.facts answer.status answer.text.items) }
 {
     watcher.see(Stage::Rows);
     match made_book(alloc, model, places)? {

@@ -1,5 +1,4 @@
 mod Common
-pub mod AcceptedData
 pub mod AcceptedNames
 pub mod Counts
 pub mod Law

@@ -7,6 +7,7 @@ use Rattle.model_sets.specs.Members.{SetLists, empty_set, is_without_members, me
 use Rattle.model_sets.specs.Names.{fuel, mode, region, required_sets, set_count, technology, timeslice, year}
 use Rattle.mathprog_data.specs.Meaning.{Blocks}
 use Rattle.param_tables.specs.BlockData.{data_told, set_lists}
+use Rattle.param_tables.specs.Canonical.{canonical}
 use Rattle.param_tables.specs.InTurn.{first_of}
 use Rattle.param_tables.specs.SetRefusals.{fault_in, member_refusals, set_refusals}
 use Rattle.model_sets.specs.declared.fault.SetFault.{SetFault}
@@ -84,7 +85,7 @@ module _ (bytes : List ℕ) (d : Data) (accepted : Accepted bytes d) where
   abbrev three : Bool → Bool → Bool → Bool
   three r t y = r && true && true && t && true && true && true && y
 
-  there : exists (data_told blocks) (new_capacity 0 0 0) ≡ true
+  there : exists (canonical (data_told blocks)) (new_capacity 0 0 0) ≡ true
   there = by (nat_lt 0 (length (members sets region))) (nat_lt 0 (length (members sets technology))) (nat_lt 0 (length (members sets year)))
       (some-members sets region at_region.0) (some-members sets technology at_technology.0) (some-members sets year at_year.0)
     where

@@ -1,7 +1,6 @@
 -- What is to be sent for a request: an answer, or the equations of a model, which are written as they are made.
 use Rattle.std.specs.Prelude.{◌≡◌, List, ℕ, ⊤}
 use Rattle.discount_factors.specs.Factors.{IsPlaces}
-use Rattle.model_sets.specs.Data.{AreSameData, Data}
 use Rattle.command_answers.specs.declared.status.Status.{Status}
 use Rattle.command_answers.specs.declared.status.Status.TheVariants.{ReadFault, WriteFault, Memory}
 use Rattle.command_words.specs.Words.{Request, Mps}
@@ -27,10 +26,10 @@ CanBeTold status = ⊤
 abbrev pub IsTold : Status → List ℕ → Status → List ℕ → Type 0
 IsTold said line status text = (status ≡ said) × (text ≡ line)
 
--- the answer that is told; or what is due for `mps` over any data that have the model's sets and values
+-- the answer that is told; or what is due for `mps` over the model's data
 abbrev pub DueForReply : Reply → Status → List ℕ → Type 0
 DueForReply (Told answer) status text = IsTold answer.status answer.text.items status text
-DueForReply (Equations model places) status text = (d : Data) → AreSameData model.facts d → DueForEquations places d status text
+DueForReply (Equations model places) status text = DueForEquations places model.facts status text
 
 -- the text of the reply is written as it is made
 abbrev pub IsAsMade : Reply → Type 0

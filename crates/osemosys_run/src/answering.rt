@@ -6,8 +6,6 @@ ghost use Rattle.command_words.specs.Commands.{request_of};
 ghost use Rattle.command_words.specs.Words.{Mps};
 ghost use Rattle.discount_factors.specs.Factors.{IsPlaces};
 ghost use Rattle.mathprog_data.specs.Pieces.{StandsFor};
-ghost use Rattle.model_sets.specs.Data.{AreSameData, Data};
-ghost use Rattle.param_tables.specs.Built.{AreGivenAlike};
 ghost use Rattle.request_files.specs.Marked.{AllHold};
 ghost use Rattle.osemosys_run.specs.Due.{DueOverData, bytes_at};
 ghost use Rattle.osemosys_run.specs.Replies.{IsReplyTo};
@@ -118,8 +116,8 @@ fn answer_over(
 ) -> Result<Answer, AllocError>
     requires in_range { IsInRange (request_of command) }
     requires one { HasOneModel (request_of command) }
-    ensures { (text : List ℕ) (d : Data) → AreSameData model.now.facts d → AreGivenAlike model.now.facts d → IfOk result (λ answer.
-        DueOverData (request_of command.entry) (text ∷ map (λ bytes. bytes.items) others.now) model.now.rounded d answer.status answer.text.items) }
+    ensures { (text : List ℕ) → IfOk result (λ answer.
+        DueOverData (request_of command.entry) (text ∷ map (λ bytes. bytes.items) others.now) model.now.rounded model.now.facts answer.status answer.text.items) }
 {
     match command {
         Command::Solve {
@@ -213,8 +211,8 @@ fn answer_checked(
 ) -> Result<Answer, AllocError>
     requires in_range { IsInRange (request_of command) }
     requires one { BeginsWithCheck (request_of command) }
-    ensures { (text : List ℕ) (d : Data) → AreSameData model.now.facts d → IfOk result (λ answer.
-        DueOverData (request_of command.entry) (text ∷ map (λ bytes. bytes.items) others.now) model.now.rounded d answer.status answer.text.items) }
+    ensures { (text : List ℕ) → IfOk result (λ answer.
+        DueOverData (request_of command.entry) (text ∷ map (λ bytes. bytes.items) others.now) model.now.rounded model.now.facts answer.status answer.text.items) }
 {
     let first = bytes_at(others, 0);
     match command {

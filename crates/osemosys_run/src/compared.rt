@@ -3,7 +3,6 @@
 ghost use Rattle.std.specs.Prelude.{◌≡◌, ◌≤◌, ◌∷◌, ◌++◌, [], List, ℕ, length, map, IfOk, MatchResult};
 ghost use Rattle.discount_factors.specs.Factors.{IsPlaces};
 ghost use Rattle.mathprog_data.specs.Pieces.{StandsFor};
-ghost use Rattle.model_sets.specs.Data.{AreSameData, Data};
 ghost use Rattle.command_answers.specs.Accepted.{most_bytes};
 ghost use Rattle.compare_command.specs.Compared.{IsOf, Judged as Scenario};
 ghost use Rattle.request_files.specs.Marked.{AllHold};
@@ -127,9 +126,9 @@ fn judge_over(
     places: u8,
 ) -> Result<Result<AcceptedProof, Answer>, AllocError>
     requires { IsPlaces places }
-    ensures { (d : Data) → AreSameData model.now.facts d → IfOk result (λ verdict. MatchResult verdict
-        (λ accepted. AcceptsOver places gap d proof.now accepted)
-        (λ said. RefusesOver places gap d proof.now said.status said.text.items)) }
+    ensures { IfOk result (λ verdict. MatchResult verdict
+        (λ accepted. AcceptsOver places gap model.now.facts proof.now accepted)
+        (λ said. RefusesOver places gap model.now.facts proof.now said.status said.text.items)) }
 {
     match made_book(alloc, model, places)? {
         Ok(book) => accepted_proof(alloc, &book, model.sets(), proof, gap),

@@ -2,7 +2,6 @@
 ghost use Rattle.std.specs.Prelude.{◌≡◌, ◌≤◌, true, ⊤};
 ghost use Rattle.std.specs.List.{AllByRecursion};
 ghost use Rattle.discount_factors.specs.Factors.{IsPlaces};
-ghost use Rattle.model_sets.specs.Data.{AreSameData, Data};
 ghost use Rattle.mps_writer.specs.MpsText.{rows_text};
 ghost use Rattle.row_book.specs.Books.{IsWithinSets, NamesRowWithin};
 ghost use Rattle.row_book.specs.Feeds.{HasContentsWithin};
@@ -25,20 +24,11 @@ use row_core::Var;
 use std::alloc::Global;
 
 /// Writes the MPS text of the equations of a model, with written factors of 6 or 9 decimal places, or the line for the first
-/// row that can't be made. It is what is due over any data that have the model's sets and values.
+/// row that can't be made.
 ///
 /// Each row is made once before the first byte is written, and again for each section and kind of variable that it has a part
 /// in; few rows are in memory at a time. Where memory runs out, a prefix of the text was written.
 pub fn write_equations<K: Sink>(alloc: Global, model: &ModelData, places: u8, out: &mut K) -> Status
-    requires { IsPlaces places }
-    ensures delivers { Delivers ⊤ (λ status text. (d : Data) → AreSameData model.now.facts d → DueForEquations places d status text) result (sent K.Sink out.old) (sent K.Sink out.new) }
-    ensures faults { K.faults out.old ≤ K.faults out.new }
-{
-    write_model(alloc, model, places, out)
-}
-
-// Writes what is due over the model's own data.
-fn write_model<K: Sink>(alloc: Global, model: &ModelData, places: u8, out: &mut K) -> Status
     requires { IsPlaces places }
     ensures delivers { Delivers ⊤ (DueForEquations places model.now.facts) result (sent K.Sink out.old) (sent K.Sink out.new) }
     ensures faults { K.faults out.old ≤ K.faults out.new }

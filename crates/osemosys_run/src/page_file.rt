@@ -1,7 +1,6 @@
 // What `page` answers over accepted data and the bytes of the file of a proof: `check` comes first, and then the page.
 ghost use Rattle.std.specs.Prelude.{◌≡◌, ℕ, IfOk};
 ghost use Rattle.discount_factors.specs.Factors.{IsPlaces};
-ghost use Rattle.model_sets.specs.Data.{AreSameData, Data};
 ghost use Rattle.check_command.specs.CheckProof.{DueForProofFile};
 ghost use Rattle.command_answers.specs.CheckedPlans.{IsBookOf, IsListedBook};
 ghost use Rattle.command_answers.specs.ShownProofs.{DueOverRows};
@@ -31,8 +30,8 @@ pub fn answer_paged(
     asked: PageAsked<'_>,
 ) -> Result<Answer, AllocError>
     requires { IsPlaces places }
-    ensures { (d : Data) → AreSameData model.now.facts d → IfOk result (λ answer.
-        DueForPage places (λ rows. DueForProofFile places d rows proof.now asked.entry.gap) proof.now d answer.status answer.text.items) }
+    ensures { IfOk result (λ answer.
+        DueForPage places (λ rows. DueForProofFile places model.now.facts rows proof.now asked.entry.gap) proof.now model.now.facts answer.status answer.text.items) }
 {
     match made_book(alloc, model, places)? {
         Ok(book) => answer_over(alloc, model, places, &book, proof, asked),
@@ -52,8 +51,7 @@ fn answer_over(
     requires places { IsPlaces places }
     requires listed { IsListedBook model.now.facts.sets book.now.rows book.now.vars }
     requires of_data { IsBookOf places model.now.facts book.now.rows book.now.vars }
-    ensures { (d : Data) → AreSameData model.now.facts d → IsBookOf places d book.now.rows book.now.vars
-        → IfOk result (λ answer. DueOverRows (DueForProofFile places d book.now.rows proof.now asked.entry.gap) proof.now ShowsPage d answer.status answer.text.items) }
+    ensures { IfOk result (λ answer. DueOverRows (DueForProofFile places model.now.facts book.now.rows proof.now asked.entry.gap) proof.now ShowsPage model.now.facts answer.status answer.text.items) }
 {
     match accepted_proof(alloc, book, model.sets(), proof, asked.gap)? {
         Ok(accepted) => {

@@ -7,7 +7,7 @@ ghost use Rattle.mathprog_data.specs.Meaning.{Blocks};
 ghost use Rattle.mathprog_data.specs.Verdicts.{FaultAt, Says};
 ghost use Rattle.mathprog_data.specs.declared.blocks.Mark.{Mark};
 ghost use Rattle.model_sets.specs.Data.{Data};
-ghost use Rattle.model_sets.specs.Members.{AreSets};
+ghost use Rattle.param_tables.specs.Built.{AreComplete};
 ghost use Rattle.mps_meaning.specs.Programs.{Program};
 ghost use Rattle.mps_meaning.specs.Reading.{program_of};
 ghost use Rattle.mps_plans.specs.PlanPrograms.{IsProgramOf};
@@ -35,7 +35,6 @@ ghost use Rattle.command_words.specs.WordParts.{HasSpelledParts, Part};
 ghost use Rattle.command_words.specs.Words.{asked};
 ghost use Rattle.command_words.specs.declared.command.CompareShow.{CompareShow};
 ghost use Rattle.command_words.specs.declared.command.SolveMethod.{SolveMethod};
-ghost use Rattle.data_warnings.specs.Findings.{findings};
 ghost use Rattle.data_warnings.specs.Lines.{line};
 ghost use Rattle.data_warnings.specs.NoPlan.{EndsIn, excludes_plans, no_plan_ending};
 ghost use Rattle.data_warnings.specs.declared.places.Finding.{Finding};
@@ -50,7 +49,7 @@ ghost use Rattle.osemosys_run.specs.Due.{AskForEquations, Due};
 ghost use Rattle.osemosys_run.specs.Mps.{WritesEquations};
 ghost use Rattle.osemosys_run.specs.Promised.{IsPromisedTable};
 ghost use Rattle.osemosys_run.specs.Requests.{IsInRange};
-ghost use Rattle.osemosys_run.specs.Warned.{IsWarned};
+ghost use Rattle.osemosys_run.specs.Warned.{IsWarned, findings_over};
 ghost use Rattle.osemosys_run.specs.Causes.{Caused, IsReplyFor};
 ghost use Rattle.osemosys_run.specs.ReadToEnd.{IsReadToEnd, ReadsWhole};
 ghost use Rattle.osemosys_run.specs.Runs.{IsRun};
@@ -168,8 +167,10 @@ pub fn osemosys<S: Shelf, K: Sink>(
     ensures not_both { (text : List ℕ) (blocks : Blocks) (number : ℕ) (at : Mark) → Says text blocks → FaultAt text number at → ⊥ }
     ensures reading_or_fault { (text : List ℕ) → ((blocks : Blocks) × Says text blocks) ⊎ ((number : ℕ) × (at : Mark) × FaultAt text number at) }
 
-    // A text has the data of one model, or one line that refuses it, and never both.
+    // A text has the data of one model, or one line that refuses it, and never both. The data are complete: their sets are by the rules,
+    // and each used parameter has a value in its range at each of its indices.
     ensures one_data { (text : List ℕ) (d e : Data) → Accepted text d → Accepted text e → d ≡ e }
+    ensures complete_data { (text : List ℕ) (d : Data) → Accepted text d → AreComplete d }
     ensures one_line { (text : List ℕ) (status other : Status) (line another : List ℕ) →
         DueWhereNotAccepted text status line → DueWhereNotAccepted text other another → line ≡ another }
     ensures not_accepted { (text : List ℕ) (d : Data) (status : Status) (line : List ℕ) → Accepted text d → DueWhereNotAccepted text status line → ⊥ }
@@ -207,8 +208,8 @@ pub fn osemosys<S: Shelf, K: Sink>(
         → IsPromisedDifference places show bytes bytes2 text }
 
     // Where one of the lines of `warn` ends in `: no plan`, whatever the names of members are, or is of a rule whose lines do, no plan exists.
-    ensures no_plan { (rounded : ℕ) (d : Data) (status : Status) (text : List ℕ) (warned : IsWarned rounded d status text) (f : Finding)
-        → Contains (findings warned.built) f → (excludes_plans f.rule ≡ true) ⊎ (AreSets d.sets × EndsIn no_plan_ending (line d.sets f))
+    ensures no_plan { (rounded : ℕ) (d : Data) (status : Status) (text : List ℕ) → IsWarned rounded d status text → (f : Finding) → Contains (findings_over rounded d) f
+        → (excludes_plans f.rule ≡ true) ⊎ EndsIn no_plan_ending (line d.sets f)
         → (places q : ℕ) (x : Var → ℤ) → Feasible places d q x → ⊥ }
 
     // What `solve` writes to prove its end is accepted by `check`, over the same data file and with the same gap and decimal places, whatever its

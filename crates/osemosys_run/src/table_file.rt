@@ -1,7 +1,7 @@
 // What `table` answers over accepted data and the bytes of the file of a proof: `check` comes first, and then the table.
 ghost use Rattle.std.specs.Prelude.{◌≡◌, ℕ, IfOk};
 ghost use Rattle.discount_factors.specs.Factors.{IsPlaces};
-ghost use Rattle.model_sets.specs.Data.{AreSameData, Data};
+ghost use Rattle.model_sets.specs.Data.{Data};
 ghost use Rattle.check_command.specs.CheckProof.{DueForProofFile};
 ghost use Rattle.command_answers.specs.CheckedPlans.{IsBookOf, IsListedBook};
 ghost use Rattle.command_answers.specs.ShownProofs.{DueOverRows};
@@ -36,8 +36,8 @@ pub fn answer_table(
     asked: TableAsked<'_>,
 ) -> Result<Answer, AllocError>
     requires { IsPlaces places }
-    ensures { (d : Data) → AreSameData model.now.facts d → IfOk result (λ answer.
-        DueForTable places (λ rows. DueForProofFile places d rows proof.now asked.entry.gap) proof.now asked.entry.name.now (form_of asked.entry.exact) d answer.status answer.text.items) }
+    ensures { IfOk result (λ answer.
+        DueForTable places (λ rows. DueForProofFile places model.now.facts rows proof.now asked.entry.gap) proof.now asked.entry.name.now (form_of asked.entry.exact) model.now.facts answer.status answer.text.items) }
 {
     let Some(shown) = shown_named(asked.name.as_bytes()) else {
         return refuse_table(alloc, asked.name);

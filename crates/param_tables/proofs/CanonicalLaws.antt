@@ -1,5 +1,6 @@
 -- Data in canonical form: what they give at each index, and when two are equal.
-use Rattle.param_tables.proofs.Common.{◌≡◌, ℕ, zero, ◌+◌, ◌-◌, ◌<◌, ◌≤◌, Bool, true, false, cond, ◌&&◌, ◌||◌, List, [], ◌∷◌, ◌++◌, Option, None, Some, length, nat_eq, get_or, refl, sym, ap, ap₂, ◌∙◌, subst, inl, inr, arith, ℤ, Contains, filter, is_some, pointwise, cons_option, filter_map, find, flat_map, list_any, range_with_len, option_map, option_or, bytes_eq, cases_eq, eq-eqb, eqb-true, ne_eqb, get_or-range_with_len, length-range_with_len, find-append, AreSameData, Data, Default, Given, IsUsedParam, default_of, given_at, indices_of, is_given_at, used_params, value_at, value_of_none, SetLists, is_used, param_at, param_count, canonical, defaults_in_order, given_in_order, given_value, values_for, AreGivenAlike, GiveTheSame}
+use Rattle.param_tables.proofs.Common.{◌≡◌, ℕ, zero, ◌+◌, ◌-◌, ◌<◌, ◌≤◌, Bool, true, false, cond, ◌&&◌, ◌||◌, List, [], ◌∷◌, ◌++◌, Option, None, Some, length, nat_eq, get_or, refl, sym, ap, ap₂, ◌∙◌, subst, inl, inr, arith, ℤ, Contains, filter, is_some, pointwise, cons_option, filter_map, find, flat_map, list_any, range_with_len, option_map, option_or, bytes_eq, cases_eq, eq-eqb, eqb-true, ne_eqb, get_or-range_with_len, length-range_with_len, find-append, AreSameData, Data, Default, Given, IsUsedParam, default_of, given_at, indices_of, is_given_at, used_params, value_at, value_of_none, SetLists, is_used, param_at, param_count, canonical, defaults_in_order, given_in_order, given_value, values_for}
+use Rattle.param_tables.specs.SameData.{AreGivenAlike, GiveTheSame}
 use Rattle.param_tables.proofs.AscendingLaws.{contains_cases, contains_filter, contains_from_filter, contains_later}
 use Rattle.param_tables.proofs.DataLaws.{option_or-map}
 use Rattle.param_tables.proofs.GivenLaws.{names_same}
@@ -157,10 +158,3 @@ canonical_same d = record { sets = refl; second = refl; values = λ p used index
 
 pub canonical_alike : (d : Data) → AreGivenAlike d (canonical d)
 canonical_alike d = record { each = λ p used index has. ap is_some (sym (given_canonical d p index has used)) }
-
--- and the other way round
-pub same_canonical : (d : Data) → AreSameData (canonical d) d
-same_canonical d = record { sets = refl; second = refl; values = λ p used index has. value_canonical d p used index has }
-
-pub alike_canonical : (d : Data) → AreGivenAlike (canonical d) d
-alike_canonical d = record { each = λ p used index has. ap is_some (given_canonical d p index has used) }

@@ -1,7 +1,8 @@
 -- The definitions computed on worked examples, and on near misses.
-use Rattle.param_tables.proofs.Common.{◌≡◌, ℕ, true, false, ◌∷◌, ◌++◌, [], List, Some, None, Option, refl, map, pos, negsuc, set, arith, false≢true, Mark, SetFault, value_at, data_told, set_lists, AreGivenAlike, is_given, canonical, defaults_in_order, given_in_order, names_at, whole, set_word, param_word, commodity, ratio_param, Input, Output, Emission, Refusal, storage, StorageMember, UnknownName, GivenBefore, AtIndex, first_refusal, first_set_refusal, Blocks, SetBlock, ParamBlock, GivenValue, NoValue, Negative, NotWhole, OutOfRange, WholeUnits}
+use Rattle.param_tables.proofs.Common.{◌≡◌, ℕ, true, false, ◌∷◌, ◌++◌, [], List, Some, None, Option, refl, map, pos, negsuc, set, arith, false≢true, Mark, SetFault, value_at, data_told, set_lists, is_given, canonical, defaults_in_order, given_in_order, names_at, whole, set_word, param_word, commodity, ratio_param, Input, Output, Emission, Refusal, storage, StorageMember, UnknownName, GivenBefore, AtIndex, first_refusal, first_set_refusal, Blocks, SetBlock, ParamBlock, GivenValue, NoValue, Negative, NotWhole, OutOfRange, WholeUnits}
 use Rattle.std.specs.Prelude.{codes, ℤ, ◌-◌}
 use Rattle.std.specs.Fmt.{digits}
+use Rattle.param_tables.specs.SameData.{AreGivenAlike}
 
 -- ---- numbers
 

@@ -1,7 +1,6 @@
 -- What built data mean: the sets, and a value in its range for each used parameter and index.
 use Rattle.std.specs.Prelude.{◌≡◌, ℕ, ℤ, pos, Bool, List, unwrap_or, is_some, Contains, IsSomeAnd}
 use Rattle.exact_num.specs.Rational.{Rational, lowest}
-pub use Rattle.model_sets.specs.Data.{AreSameData}
 use Rattle.model_sets.specs.Data.{Data, IsUsedParam, given_at, indices_of, value_at}
 use Rattle.model_sets.specs.Members.{AreSets}
 use Rattle.param_tables.specs.BlockData.{data_told}
@@ -22,15 +21,9 @@ pub record Built : Type 0 where
 abbrev pub is_given : Data → ℕ → List (List ℕ) → Bool
 is_given d param index = is_some (given_at d param index)
 
--- for each used parameter, at each of its indices: a value was given in the one exactly where in the other
-pub record AreGivenAlike (d e : Data) : Type 0 where
-  pub each : (param : ℕ) → IsUsedParam d param → (index : List (List ℕ)) → Contains (indices_of d.sets param) index → is_given d param index ≡ is_given e param index
-
--- what is built is what the statements give, in canonical form; so it has the same values, and is given where they give it
+-- what is built is what the statements give, in canonical form
 pub record IsBuiltFrom (statements : Blocks) (built : Built) : Type 0 where
-  pub facts_are : built.facts ≡ canonical (data_told statements)
-  pub facts : AreSameData built.facts (data_told statements)
-  pub given : AreGivenAlike built.facts (data_told statements)
+  pub facts : built.facts ≡ canonical (data_told statements)
   pub rounded : built.rounded ≡ statements.rounded
 
 -- the value lies in the range, and is a number of a data section

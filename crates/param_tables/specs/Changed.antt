@@ -13,6 +13,5 @@ pub record AreDataWith (param : ℕ) (index : List (List ℕ)) (value : ℤ) (ol
 
 -- the built data are those with this value at the index, in canonical form, and as many numbers of the text were rounded
 pub record IsBuiltWith (param : ℕ) (index : List (List ℕ)) (value : ℤ) (old new : Built) : Type 0 where
-  pub facts_are : new.facts ≡ with_value_at old.facts param index value
-  pub facts : AreDataWith param index value old.facts new.facts
+  pub facts : new.facts ≡ with_value_at old.facts param index value
   pub rounded : new.rounded ≡ old.rounded

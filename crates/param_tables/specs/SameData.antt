@@ -1,9 +1,13 @@
 -- Data that say the same, and what their canonical form keeps of them.
 use Rattle.std.specs.Prelude.{◌≡◌, ℕ, ℤ, List, Contains}
 use Rattle.model_sets.specs.Data.{AreSameData, Data, IsUsedParam, default_of, given_at, indices_of}
-use Rattle.param_tables.specs.Built.{AreGivenAlike}
+use Rattle.param_tables.specs.Built.{is_given}
 use Rattle.param_tables.specs.Canonical.{canonical, with_value_at}
 use Rattle.param_tables.specs.Changed.{AreDataWith}
+
+-- for each used parameter, at each of its indices: a value was given in the one exactly where in the other
+pub record AreGivenAlike (d e : Data) : Type 0 where
+  pub each : (param : ℕ) → IsUsedParam d param → (index : List (List ℕ)) → Contains (indices_of d.sets param) index → is_given d param index ≡ is_given e param index
 
 -- the same sets, the same parameters used, the same default of each, and the same value given at each of its indices, or none
 pub record GiveTheSame (d e : Data) : Type 0 where

@@ -5,7 +5,6 @@ ghost use Rattle.model_sets.specs.Data.{IsUsedParam, indices_of};
 ghost use Rattle.model_sets.specs.Params.{range_of};
 ghost use Rattle.param_tables.specs.Built.{IsValueIn};
 ghost use Rattle.param_tables.specs.Canonical.{with_value_at};
-ghost use Rattle.param_tables.specs.Changed.{AreDataWith};
 ghost use Rattle.param_tables.specs.ChangedTables.{AreCopiesOf, AreTablesWith};
 ghost use Rattle.param_tables.specs.RatioPlaces.{AreKeptWith};
 ghost use Rattle.param_tables.specs.View.{AreKept, facts_of};
@@ -77,7 +76,6 @@ pub(crate) fn changed_parts(
     ensures sets { IfOk result (λ parts. parts.sets ≡ sets.now) }
     ensures kept { IfOk result (λ parts. AreKeptWith sets.now parts.tables.items second parts.ratios) }
     ensures changed { IfOk result (λ parts. facts_of sets.now parts.tables.items second ≡ with_value_at (facts_of sets.now tables.now second) change.param (slice_index_or (indices_of sets.now change.param) change.place []) change.value) }
-    ensures alike { IfOk result (λ parts. AreDataWith change.param (slice_index_or (indices_of sets.now change.param) change.place []) change.value (facts_of sets.now tables.now second) (facts_of sets.now parts.tables.items second)) }
 {
     let sets = copied_sets(alloc, sets)?;
     let tables = tables_with(alloc, tables, change)?;

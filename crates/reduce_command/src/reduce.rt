@@ -1,7 +1,6 @@
 // What `reduce` answers over accepted data.
 ghost use Rattle.std.specs.Prelude.{IfOk};
 ghost use Rattle.discount_factors.specs.Factors.{IsPlaces};
-ghost use Rattle.model_sets.specs.Data.{AreSameData, Data};
 ghost use Rattle.reduce_command.specs.Reduced.{DueForReduced, DueForRows};
 
 use crate::text::reduced_text;
@@ -14,8 +13,8 @@ use std::alloc::{AllocError, Global};
 /// lines that say what it is. Of the program nothing is said; nor is it said when none is found, and then it is refused.
 pub fn answer_reduce(alloc: Global, model: &ModelData, places: u8) -> Result<Answer, AllocError>
     requires { IsPlaces places }
-    ensures { (d : Data) → AreSameData model.now.facts d → IfOk result (λ answer.
-        DueForReduced places d answer.status answer.text.items) }
+    ensures { IfOk result (λ answer.
+        DueForReduced places model.now.facts answer.status answer.text.items) }
 {
     match made_book(alloc, model, places)? {
         Ok(book) => answer_book(alloc, &book),

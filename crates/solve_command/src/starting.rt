@@ -2,7 +2,7 @@
 // similar model.
 ghost use Rattle.std.specs.Prelude.{◌≡◌, IfOk};
 ghost use Rattle.discount_factors.specs.Factors.{IsPlaces};
-ghost use Rattle.model_sets.specs.Data.{AreSameData, Data};
+ghost use Rattle.model_sets.specs.Data.{Data};
 ghost use Rattle.command_answers.specs.CheckedPlans.{IsBookOf, IsListedBook};
 ghost use Rattle.solve_command.specs.Starts.{DueForSolveFrom, DueForStart};
 
@@ -27,8 +27,8 @@ pub fn answer_from(
     watcher: &mut dyn Watcher,
 ) -> Result<Answer, AllocError>
     requires { IsPlaces places }
-    ensures { (d : Data) → AreSameData model.now.facts d → IfOk result (λ answer.
-        DueForSolveFrom places wanted bytes.now model.now.rounded d answer.status answer.text.items) }
+    ensures { IfOk result (λ answer.
+        DueForSolveFrom places wanted bytes.now model.now.rounded model.now.facts answer.status answer.text.items) }
 {
     watcher.see(Stage::Rows);
     match made_book(alloc, model, places)? {

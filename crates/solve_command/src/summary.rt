@@ -1,7 +1,7 @@
 // What `make` says in a few lines of the model that it makes: how large it is, and what `solve` with its default options comes to.
 ghost use Rattle.std.specs.Prelude.{◌≡◌, ◌++◌, ℕ, IfOk, decimal};
 ghost use Rattle.discount_factors.specs.Factors.{IsPlaces};
-ghost use Rattle.model_sets.specs.Data.{AreSameData, Data};
+ghost use Rattle.model_sets.specs.Data.{Data};
 ghost use Rattle.command_answers.specs.CheckedPlans.{IsBookOf, IsListedBook};
 ghost use Rattle.solve_command.specs.Summary.{DueAfterCounts, DueForDefaults, DueForSummary, counts_text};
 
@@ -24,8 +24,8 @@ pub fn answer_summary(
     watcher: &mut dyn Watcher,
 ) -> Result<Answer, AllocError>
     requires { IsPlaces places }
-    ensures { (d : Data) → AreSameData model.now.facts d → IfOk result (λ answer.
-        DueForSummary places model.now.rounded d answer.status answer.text.items) }
+    ensures { IfOk result (λ answer.
+        DueForSummary places model.now.rounded model.now.facts answer.status answer.text.items) }
 {
     watcher.see(Stage::Rows);
     match made_book(alloc, model, places)? {

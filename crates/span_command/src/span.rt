@@ -1,7 +1,6 @@
 // The answer over accepted data.
 ghost use Rattle.std.specs.Prelude.{◌≡◌, true, IfOk};
 ghost use Rattle.discount_factors.specs.Factors.{IsPlaces};
-ghost use Rattle.model_sets.specs.Data.{AreSameData, Data};
 ghost use Rattle.named_equations.specs.Existence.{exists};
 ghost use Rattle.row_core.specs.declared.kind_numbers.TheConstants.{NEW_CAPACITY};
 ghost use Rattle.span_command.specs.Span.{DueForMember, DueForSpan, built};
@@ -29,8 +28,8 @@ pub fn answer_span(
     watcher: &mut dyn Watcher,
 ) -> Result<Answer, AllocError>
     requires { IsPlaces places }
-    ensures { (d : Data) → AreSameData model.now.facts d → IfOk result (λ answer.
-        DueForSpan places wanted (record { region = region.now; technology = technology.now; year = year.now }) model.now.rounded d answer.status answer.text.items) }
+    ensures { IfOk result (λ answer.
+        DueForSpan places wanted (record { region = region.now; technology = technology.now; year = year.now }) model.now.rounded model.now.facts answer.status answer.text.items) }
 {
     let region = match find_member(alloc, model.sets(), REGION, region)? {
         Ok(region) => region,
@@ -85,8 +84,8 @@ fn answer_member(
     requires places { IsPlaces places }
     requires chosen { var.kind ≡ NEW_CAPACITY }
     requires exists { exists model.now.facts var ≡ true }
-    ensures { (d : Data) → AreSameData model.now.facts d → IfOk result (λ answer.
-        DueForMember places wanted var model.now.rounded d answer.status answer.text.items) }
+    ensures { IfOk result (λ answer.
+        DueForMember places wanted var model.now.rounded model.now.facts answer.status answer.text.items) }
 {
     watcher.see(Stage::Rows);
     match made_book(alloc, model, places)? {

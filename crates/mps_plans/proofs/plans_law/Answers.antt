@@ -1,4 +1,4 @@
-use Rattle.mps_plans.proofs.AcceptedData.{accepted-complete}
+use Rattle.command_answers.proofs.AcceptedData.{accepted-complete}
 use Rattle.mps_plans.proofs.AcceptedNames.{accepted-names}
 use Rattle.mps_plans.proofs.Law.{means}
 use Rattle.mps_plans.proofs.plans_law.Goals as goal

@@ -1,23 +1,22 @@
--- Over any data that are the same, the book is theirs.
-use Rattle.std.proofs.Common.{◌∙◌, inl, inr, sym, subst}
+use Rattle.std.proofs.Common.{inl, inr, sym, subst}
 use Rattle.std.proofs.lemmas.Result.{IfOk-weaker}
 use Rattle.command_answers.specs.CheckedPlans.{IsListedBook}
 use Rattle.command_answers.specs.MadeBooks.{TellsMade}
-use Rattle.command_answers.proofs.SameData.{same-itself}
 use Rattle.check_command.proofs.proof.answer_proof.Goals as goal
 
 pub answer_proof_file-requires : goal.answer_proof_file-requires
 answer_proof_file-requires c =
     let facts = c.args.model.now.facts in
-    let own = subst (TellsMade c.args.places facts) c.in-Ok.is (c.in_ok-book.ensures facts (same-itself facts)) in
+    let own = subst (TellsMade c.args.places facts) c.in-Ok.is c.in_ok-book.ensures in
     subst (λ sets. IsListedBook sets c.in-Ok.book.rows c.in-Ok.book.vars) (sym c.sets.ensures.sets) own.listed
 
 pub returns-in-Ok : goal.returns-in-Ok
-returns-in-Ok c = λ d same.
-    let made = subst (TellsMade c.args.places d) c.in-Ok.is (c.in_ok-book.ensures d same) in
+returns-in-Ok c =
+    let facts = c.args.model.now.facts in
+    let made = subst (TellsMade c.args.places facts) c.in-Ok.is c.in_ok-book.ensures in
     IfOk-weaker c.answer_proof_file.result _ _
     (λ answer due. inl (record { made = made.made; rows = c.in-Ok.book.rows; are_rows = made.is_book.are_rows; due = due }))
-    (c.answer_proof_file.ensures c.args.places d (c.sets.ensures.sets ∙ same.sets) made.is_book)
+    (c.answer_proof_file.ensures c.args.places facts c.sets.ensures.sets made.is_book)
 
 pub returns-in-Err : goal.returns-in-Err
-returns-in-Err c = λ d same. inr (subst (TellsMade c.args.places d) c.in-Err.is (c.in_ok-book.ensures d same))
+returns-in-Err c = inr (subst (TellsMade c.args.places c.args.model.now.facts) c.in-Err.is c.in_ok-book.ensures)

@@ -11,7 +11,7 @@ refuse_data-requires c =
     subst (λ (sets : SetLists). NamesCell sets c.in-Err-Fault.fault) (sym told.2) told.1
 
 pub returns-in-Ok : goal.returns-in-Ok
-returns-in-Ok c = (c.in-Ok.ensures.accepted, c.in-Ok.ensures.built.facts, c.in-Ok.ensures.built.rounded, c.in-Ok.ensures.built.given)
+returns-in-Ok c = (c.in-Ok.ensures.accepted, c.in-Ok.ensures.built.facts, c.in-Ok.ensures.built.rounded)
 
 pub returns-in_ok-refuse_data-in-Err-Fault : goal.returns-in_ok-refuse_data-in-Err-Fault
 returns-in_ok-refuse_data-in-Err-Fault c =

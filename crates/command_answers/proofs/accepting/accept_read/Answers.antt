@@ -1,8 +1,7 @@
-use Rattle.std.proofs.Common.{inl, inr, refl}
+use Rattle.std.proofs.Common.{inl, inr}
 use Rattle.std.proofs.lemmas.Result.{IfOk-weaker, MatchResult-at_err, MatchResult-at_ok, MatchResult-weaker}
 use Rattle.mathprog_data.specs.BlocksView.{blocks_told}
 use Rattle.mathprog_data.specs.Verdicts.{Says}
-use Rattle.param_tables.specs.BlockData.{data_told}
 use Rattle.command_answers.proofs.accepting.accept_read.Goals as goal
 
 pub accept_blocks-requires : goal.accept_blocks-requires
@@ -14,13 +13,7 @@ returns-in-Ok c = λ text stands short.
     let says : Says text blocks = MatchResult-at_ok _ _ c.in-Ok.blocks c.in-Ok.is (c.in_ok-blocks.ensures.told text stands) in
     IfOk-weaker c.accept_blocks.result _ _
     (λ verdict due. MatchResult-weaker verdict due
-    (λ model same. (
-      data_told blocks,
-      record { blocks = blocks; short = short; says = says; sets_accepted = same.0; data_accepted = same.1; told = refl },
-      same.2,
-      same.3,
-      same.4,
-    ))
+    (λ model same. (record { blocks = blocks; short = short; says = says; sets_accepted = same.0; data_accepted = same.1; told = same.2 }, same.3))
     (λ answer refused. inr (blocks, says, refused)))
     c.accept_blocks.ensures
 

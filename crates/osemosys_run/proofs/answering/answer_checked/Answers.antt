@@ -10,30 +10,34 @@ use Rattle.osemosys_run.proofs.RequestLaws.{as_asked}
 use Rattle.osemosys_run.proofs.answering.answer_checked.Goals as goal
 
 pub returns-in-Check : goal.returns-in-Check
-returns-in-Check c = λ text d same.
+returns-in-Check c = λ text.
+    let d = c.args.model.now.facts in
     let check = c.in-Check in
     let plan : List ℕ = bytes_at (map (λ bytes. bytes.items) c.args.others.now) 0 in
     as_asked c.args.command _ (text ∷ _) _ d c.answer_check.result check.is
     (subst (λ (multipliers : Option (List ℕ)). IfOk c.answer_check.result (λ answer. DueForCheck check.places plan multipliers check.gap d answer.status answer.text.items)) c.second_if.ensures
     (subst (λ (bytes : List ℕ). IfOk c.answer_check.result (λ answer. DueForCheck check.places bytes (option_map (λ bytes. bytes.now) c.second_if.result) check.gap d answer.status answer.text.items)) c.bytes_at-first.ensures
-    (c.answer_check.ensures d same)))
+    c.answer_check.ensures))
 
 pub returns-in-CheckProof : goal.returns-in-CheckProof
-returns-in-CheckProof c = λ text d same.
+returns-in-CheckProof c = λ text.
+    let d = c.args.model.now.facts in
     as_asked c.args.command _ (text ∷ _) _ d c.answer_proof.result c.in-CheckProof.is
-    (subst (λ (proof : List ℕ). IfOk c.answer_proof.result (λ answer. DueForProof c.in-CheckProof.places proof c.in-CheckProof.gap d answer.status answer.text.items)) c.bytes_at-first.ensures (c.answer_proof.ensures d same))
+    (subst (λ (proof : List ℕ). IfOk c.answer_proof.result (λ answer. DueForProof c.in-CheckProof.places proof c.in-CheckProof.gap d answer.status answer.text.items)) c.bytes_at-first.ensures c.answer_proof.ensures)
 
 pub returns-in-Table : goal.returns-in-Table
-returns-in-Table c = λ text d same.
+returns-in-Table c = λ text.
+    let d = c.args.model.now.facts in
     let table = c.in-Table in
     as_asked c.args.command _ (text ∷ _) _ d c.answer_table.result table.is
     (subst
     (λ (proof : List ℕ). IfOk c.answer_table.result (λ answer. DueForTable table.places (λ rows. DueForProofFile table.places d rows proof table.gap) proof table.name.now (form_of table.exact) d answer.status answer.text.items))
-    c.bytes_at-first.ensures (c.answer_table.ensures d same))
+    c.bytes_at-first.ensures c.answer_table.ensures)
 
 pub returns-in-Page : goal.returns-in-Page
-returns-in-Page c = λ text d same.
+returns-in-Page c = λ text.
+    let d = c.args.model.now.facts in
     let page = c.in-Page in
     as_asked c.args.command _ (text ∷ _) _ d c.answer_paged.result page.is
     (subst (λ (proof : List ℕ). IfOk c.answer_paged.result (λ answer. DueForPage page.places (λ rows. DueForProofFile page.places d rows proof page.gap) proof d answer.status answer.text.items)) c.bytes_at-first.ensures
-    (c.answer_paged.ensures d same))
+    c.answer_paged.ensures)

@@ -1,7 +1,5 @@
 use Rattle.std.proofs.Common.{◌≡◌, ◌∷◌, inl, inr, refl}
 use Rattle.std.proofs.lemmas.Result.{IfOk-weaker, MatchResult-at_err, MatchResult-at_ok}
-use Rattle.model_sets.specs.Data.{AreSameData, Data}
-use Rattle.param_tables.specs.Built.{AreGivenAlike}
 use Rattle.command_answers.specs.Accepted.{Accepted}
 use Rattle.command_words.specs.Words.{Mps}
 use Rattle.osemosys_run.proofs.ReplyLaws.{equations_own, told_reply}
@@ -9,11 +7,12 @@ use Rattle.osemosys_run.proofs.answering.answer_mps.Goals as goal
 
 pub returns-in-Ok : goal.returns-in-Ok
 returns-in-Ok c = λ name text others stands short.
-    let found : (d : Data) × (accepted : Accepted text d) × AreSameData c.in-Ok.model.facts d × (c.in-Ok.model.rounded ≡ accepted.blocks.rounded) × AreGivenAlike c.in-Ok.model.facts d =
+    let d = c.in-Ok.model.facts in
+    let found : (accepted : Accepted text d) × (c.in-Ok.model.rounded ≡ accepted.blocks.rounded) =
     MatchResult-at_ok _ _ c.in-Ok.model c.in-Ok.is (c.in_ok-model.ensures text stands short) in
     record {
-      due = λ status line said. inr (found.0, found.1, said found.0 found.2);
-      own = λ status line said. equations_own c.args.places found.0 status line (said found.0 found.2);
+      due = λ status line said. inr (d, found.0, said);
+      own = λ status line said. equations_own c.args.places d status line said;
       can_be_sent = c.requires.places;
       as_made = λ made. record { name = name; places = c.args.places; is = refl };
     }

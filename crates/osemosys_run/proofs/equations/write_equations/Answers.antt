@@ -1,19 +1,48 @@
-use Rattle.std.proofs.Common.{ℕ, List}
+use Rattle.std.proofs.Common.{◌≡◌, ◌∙◌, ℕ, List, inl, inr, refl, sym, ap, subst}
 use Rattle.std.specs.Prelude.{⊤}
-use Rattle.model_sets.specs.Data.{AreSameData, Data}
+use Rattle.row_core.specs.declared.Var.{Var}
+use Rattle.row_core.specs.Contents.{RowContents}
+use Rattle.mps_writer.specs.MpsText.{rows_text}
+use Rattle.row_book.specs.Feeds.{AreContentsOf}
+use Rattle.command_answers.specs.BookFails.{TellsFail}
 use Rattle.command_answers.specs.declared.status.Status.{Status}
+use Rattle.command_answers.specs.declared.status.Status.TheVariants.{Done}
+use Rattle.command_answers.proofs.BookEnds.{refused_told}
 use Rattle.osemosys_run.specs.Sending.{sent}
 use Rattle.osemosys_run.specs.Mps.{DueForEquations}
+use Rattle.osemosys_run.specs.Replies.{IsTold}
 use Rattle.osemosys_run.proofs.RunLaws.{delivers-weaker}
-use Rattle.osemosys_run.proofs.SameEquations.{equations_carry}
 use Rattle.osemosys_run.proofs.equations.write_equations.Goals as goal
 
-pub returns-clause-delivers : goal.returns-clause-delivers
-returns-clause-delivers g c =
-    let model = c.args.model.now.facts in
+pub returns-in-Ok-clause-delivers : goal.returns-in-Ok-clause-delivers
+returns-in-Ok-clause-delivers g c =
+    let d = c.args.model.now.facts in
     let places = c.args.places in
-    delivers-weaker ⊤ ⊤ (DueForEquations places model) (λ (status : Status) (text : List ℕ). (d : Data) → AreSameData model d → DueForEquations places d status text)
-    c.write_model.result (sent g.K.Sink c.args.out.now) (sent g.K.Sink c.write_model.new.out)
+    let vars : List Var = c.in-Ok.vars.items in
+    let contents : List RowContents = c.in-Ok.feed.rows in
+    let said : AreContentsOf places d contents vars = c.in-Ok.ensures.rows in
+    delivers-weaker ⊤ ⊤ (IsTold Done (rows_text d.sets contents c.deref.result.now)) (DueForEquations places d)
+    c.write_rows.result (sent g.K.Sink c.args.out.now) (sent g.K.Sink c.write_rows.new.out)
     (λ made. made)
-    (λ status text due d same. equations_carry places model d status text same due)
-    c.write_model.ensures.delivers
+    (λ status text told. inl (record {
+      made = c.in-Ok.ensures.made;
+      status_is = told.0;
+      writes = record {
+        rows = said.rows;
+        columns = vars;
+        are_rows = said.are_rows;
+        are_columns = said.are_variables;
+        is = told.1 ∙ ap (λ (vs : List Var). rows_text d.sets contents vs) c.deref.ensures.value ∙ ap (λ (all : List RowContents). rows_text d.sets all vars) (sym said.say);
+      };
+    }))
+    c.write_rows.ensures.delivers
+
+pub returns-in-Err-clause-delivers : goal.returns-in-Err-clause-delivers
+returns-in-Err-clause-delivers g c =
+    let d = c.args.model.now.facts in
+    let places = c.args.places in
+    delivers-weaker ⊥ ⊤ (TellsFail d.sets c.in-Err.fail) (DueForEquations places d)
+    c.write_refusal.result (sent g.K.Sink c.args.out.now) (sent g.K.Sink c.write_refusal.new.out)
+    (λ never. tt)
+    (λ status text told. inr (refused_told places d d.sets c.in-Err.fail status text c.in-Err.ensures.stopped refl told))
+    c.write_refusal.ensures.delivers

@@ -1,4 +1,4 @@
-use Rattle.std.proofs.Common.{List, inl, inr, sym, ◌∙◌, subst}
+use Rattle.std.proofs.Common.{List, inl, inr, sym, subst}
 use Rattle.std.proofs.lemmas.Result.{IfOk-weaker}
 use Rattle.model_sets.specs.Members.{SetLists}
 use Rattle.row_core.specs.declared.Row.{Row}
@@ -17,8 +17,9 @@ answer_page-requires-clause-worth c =
     subst (λ (rows : List Row). HasWorth facts rows c.in-Ok.accepted.proof c.in-Ok.accepted.worth) (sym c.rows.ensures.rows) told.worth
 
 pub returns-in-Ok : goal.returns-in-Ok
-returns-in-Ok c = λ d same book.
-    let told = subst (TellsProof c.args.places c.args.proof.now c.args.asked.gap d c.args.book.now.rows) c.in-Ok.is (c.in_ok-accepted.ensures c.args.places d (c.sets.ensures.sets ∙ same.sets) book) in
+returns-in-Ok c =
+    let facts = c.args.model.now.facts in
+    let told = subst (TellsProof c.args.places c.args.proof.now c.args.asked.gap facts c.args.book.now.rows) c.in-Ok.is (c.in_ok-accepted.ensures c.args.places facts c.sets.ensures.sets c.requires.of_data) in
     IfOk-weaker c.answer_page.result _ _
     (λ answer shows.
     inr (record {
@@ -30,6 +31,7 @@ returns-in-Ok c = λ d same book.
     })) c.answer_page.ensures
 
 pub returns-in-Err : goal.returns-in-Err
-returns-in-Err c = λ d same book.
-    let told = subst (TellsProof c.args.places c.args.proof.now c.args.asked.gap d c.args.book.now.rows) c.in-Err.is (c.in_ok-accepted.ensures c.args.places d (c.sets.ensures.sets ∙ same.sets) book) in
+returns-in-Err c =
+    let facts = c.args.model.now.facts in
+    let told = subst (TellsProof c.args.places c.args.proof.now c.args.asked.gap facts c.args.book.now.rows) c.in-Err.is (c.in_ok-accepted.ensures c.args.places facts c.sets.ensures.sets c.requires.of_data) in
     inl (record { checked = told.due; not_done = told.not_done })

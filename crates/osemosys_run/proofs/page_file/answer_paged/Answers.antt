@@ -1,25 +1,25 @@
 use Rattle.std.proofs.Common.{inl, inr, subst}
 use Rattle.std.proofs.lemmas.Result.{IfOk-weaker}
 use Rattle.command_answers.specs.MadeBooks.{TellsMade}
-use Rattle.command_answers.proofs.SameData.{same-itself}
 use Rattle.osemosys_run.proofs.page_file.answer_paged.Goals as goal
 
 pub answer_over-requires-clause-listed : goal.answer_over-requires-clause-listed
 answer_over-requires-clause-listed c =
     let facts = c.args.model.now.facts in
-    (subst (TellsMade c.args.places facts) c.in-Ok.is (c.in_ok-book.ensures facts (same-itself facts))).listed
+    (subst (TellsMade c.args.places facts) c.in-Ok.is c.in_ok-book.ensures).listed
 
 pub answer_over-requires-clause-of_data : goal.answer_over-requires-clause-of_data
 answer_over-requires-clause-of_data c =
     let facts = c.args.model.now.facts in
-    (subst (TellsMade c.args.places facts) c.in-Ok.is (c.in_ok-book.ensures facts (same-itself facts))).is_book
+    (subst (TellsMade c.args.places facts) c.in-Ok.is c.in_ok-book.ensures).is_book
 
 pub returns-in-Ok : goal.returns-in-Ok
-returns-in-Ok c = λ d same.
-    let made = subst (TellsMade c.args.places d) c.in-Ok.is (c.in_ok-book.ensures d same) in
+returns-in-Ok c =
+    let facts = c.args.model.now.facts in
+    let made = subst (TellsMade c.args.places facts) c.in-Ok.is c.in_ok-book.ensures in
     IfOk-weaker c.answer_over.result _ _
     (λ answer due. inl (record { made = made.made; rows = c.in-Ok.book.rows; are_rows = made.is_book.are_rows; due = due }))
-    (c.answer_over.ensures d same made.is_book)
+    c.answer_over.ensures
 
 pub returns-in-Err : goal.returns-in-Err
-returns-in-Err c = λ d same. inr (subst (TellsMade c.args.places d) c.in-Err.is (c.in_ok-book.ensures d same))
+returns-in-Err c = inr (subst (TellsMade c.args.places c.args.model.now.facts) c.in-Err.is c.in_ok-book.ensures)

@@ -1,17 +1,9 @@
-use Rattle.param_tables.proofs.Common.{◌≡◌, Some, refl, sym, ◌∙◌, subst, data_told, first_refusal, blocks_told, IsStopDue, NamesCell, refusal_told}
-use Rattle.param_tables.specs.Built.{AreComplete, AreGivenAlike, AreSameData}
-use Rattle.param_tables.proofs.CanonicalLaws.{alike_canonical, same_canonical}
+use Rattle.param_tables.proofs.Common.{◌≡◌, Some, refl, sym, ◌∙◌, subst, AreComplete, first_refusal, blocks_told, IsStopDue, NamesCell, refusal_told}
 use Rattle.param_tables.proofs.building.build.Goals as goal
 
 pub returns-in-Ok-clause-built : goal.returns-in-Ok-clause-built
 returns-in-Ok-clause-built c = record {
-  facts_are = c.new.ensures.facts ∙ c.in-Ok.ensures.facts;
-  facts =
-      let told = data_told (blocks_told c.args.blocks.now) in
-      subst (λ facts. AreSameData facts told) (sym (c.new.ensures.facts ∙ c.in-Ok.ensures.facts)) (same_canonical told);
-  given =
-      let told = data_told (blocks_told c.args.blocks.now) in
-      subst (λ facts. AreGivenAlike facts told) (sym (c.new.ensures.facts ∙ c.in-Ok.ensures.facts)) (alike_canonical told);
+  facts = c.new.ensures.facts ∙ c.in-Ok.ensures.facts;
   rounded = c.new.ensures.rounded;
 }
 

@@ -1,6 +1,6 @@
 -- The tables mean the data with the value, and the places are theirs.
-use Rattle.param_tables.proofs.Common.{ℕ, List, [], get_or, sym, subst, Contains, get_or_default, indices_of, AreDataWith, AreAllPlaces, HaveShapes, facts_of}
-use Rattle.param_tables.proofs.ChangeLaws.{changed, data_with, shapes}
+use Rattle.param_tables.proofs.Common.{sym, subst, AreAllPlaces, HaveShapes}
+use Rattle.param_tables.proofs.ChangeLaws.{changed, shapes}
 use Rattle.param_tables.proofs.changed.changed_parts.Goals as goal
 
 pub new-requires-clause-shapes : goal.new-requires-clause-shapes
@@ -18,13 +18,3 @@ returns-clause-kept c = record {
 
 pub returns-clause-changed : goal.returns-clause-changed
 returns-clause-changed c = (changed c.args.sets.now c.args.tables.now c.in_ok-tables.tables.items c.args.second c.requires.kept c.args.change.param c.args.change.place c.args.change.value c.requires.used c.requires.place c.requires.value c.in_ok-tables.ensures).1
-
-pub returns-clause-alike : goal.returns-clause-alike
-returns-clause-alike c =
-    let sets = c.args.sets.now in
-    let d = facts_of sets c.args.tables.now c.args.second in
-    let p = c.args.change.param in
-    let place = c.args.change.place in
-    let index : List (List ℕ) = get_or (indices_of sets p) place [] in
-    let has : Contains (indices_of sets p) index = (place, c.requires.place, get_or_default (indices_of sets p) place index [] c.requires.place) in
-    subst (λ e. AreDataWith p index c.args.change.value d e) (sym (returns-clause-changed c)) (data_with d p index c.args.change.value c.requires.used has)

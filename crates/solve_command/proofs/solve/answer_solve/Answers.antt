@@ -1,21 +1,19 @@
--- Over any data that are the same, the book is theirs.
-use Rattle.std.proofs.Common.{◌∙◌, inl, inr}
+use Rattle.std.proofs.Common.{inl, inr}
 use Rattle.std.proofs.lemmas.Result.{IfOk-weaker}
-use Rattle.command_answers.proofs.SameData.{same-itself}
 use Rattle.solve_command.proofs.solve.answer_solve.Goals as goal
 
 pub answer_book-requires : goal.answer_book-requires
 answer_book-requires g c =
-    let facts = c.args.model.now.facts in
-    let own = rw c.in-Ok.is at (c.in_ok-book.ensures facts (same-itself facts)) in
+    let own = rw c.in-Ok.is at c.in_ok-book.ensures in
     rw c.sets.ensures.sets own.listed
 
 pub returns-in-Ok : goal.returns-in-Ok
-returns-in-Ok g c = λ d same.
-    let made = rw c.in-Ok.is at (c.in_ok-book.ensures d same) in
+returns-in-Ok g c =
+    let facts = c.args.model.now.facts in
+    let made = rw c.in-Ok.is at c.in_ok-book.ensures in
     IfOk-weaker c.answer_book.result _ _
     (λ answer due. inl (record { made = made.made; rows = c.in-Ok.book.rows; are_rows = made.is_book.are_rows; due = rw c.rounded.ensures at due }))
-    (c.answer_book.ensures d (c.sets.ensures.sets ∙ same.sets) made.is_book)
+    (c.answer_book.ensures facts c.sets.ensures.sets made.is_book)
 
 pub returns-in-Err : goal.returns-in-Err
-returns-in-Err g c = λ d same. inr (rw c.in-Err.is at (c.in_ok-book.ensures d same))
+returns-in-Err g c = inr (rw c.in-Err.is at c.in_ok-book.ensures)

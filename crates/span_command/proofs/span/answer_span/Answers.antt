@@ -1,13 +1,13 @@
 -- All three words are members.
-use Rattle.std.proofs.Common.{◌∙◌, inr}
+use Rattle.std.proofs.Common.{inr}
 use Rattle.std.proofs.lemmas.Result.{IfOk-weaker}
 use Rattle.span_command.proofs.span.answer_span.Goals as goal
 
 pub returns : goal.returns
-returns g c = λ d same.
-    let region = rw (c.in-Ok.is, c.sets.ensures.sets ∙ same.sets) at c.in_ok-region.ensures in
-    let technology = rw (c.in-Ok-2.is, c.sets-2.ensures.sets ∙ same.sets) at c.in_ok-technology.ensures in
-    let year = rw (c.in-Ok-3.is, c.sets-3.ensures.sets ∙ same.sets) at c.in_ok-year.ensures in
+returns g c =
+    let region = rw (c.in-Ok.is, c.sets.ensures.sets) at c.in_ok-region.ensures in
+    let technology = rw (c.in-Ok-2.is, c.sets-2.ensures.sets) at c.in_ok-technology.ensures in
+    let year = rw (c.in-Ok-3.is, c.sets-3.ensures.sets) at c.in_ok-year.ensures in
     IfOk-weaker c.answer_member.result _ _
     (λ answer due.
     inr (inr (inr (record {
@@ -19,4 +19,4 @@ returns g c = λ d same.
       year_is = year;
       due = rw c.built.ensures at due;
     }))))
-    (c.answer_member.ensures d same)
+    c.answer_member.ensures

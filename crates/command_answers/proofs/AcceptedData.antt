@@ -8,7 +8,7 @@ use Rattle.mathprog_data.proofs.ReadingLaws.{says_well}
 use Rattle.param_tables.specs.InTurn.{first_of}
 use Rattle.param_tables.specs.Refusals.{first_refusal}
 use Rattle.param_tables.specs.SetRefusals.{fault_in, first_set_refusal, member_refusals, only, refusal_after}
-use Rattle.param_tables.proofs.KeptLaws.{complete_of, values_are_numbers}
+use Rattle.param_tables.proofs.KeptLaws.{complete_canonical, complete_of, values_are_numbers}
 use Rattle.param_tables.proofs.SetLaws.{members-set}
 use Rattle.param_tables.proofs.TurnLaws.{in_turn_from, in_turn_more}
 
@@ -93,4 +93,4 @@ told-complete blocks text sets_free free says =
     (λ p used index has. values_are_numbers (set_lists blocks) blocks.params p index (says_well text blocks says).params.each)
 
 pub accepted-complete : (text : List ℕ) (d : Data) → Accepted text d → AreComplete d
-accepted-complete text d accepted = subst AreComplete (sym accepted.told) (told-complete accepted.blocks text accepted.sets_accepted accepted.data_accepted accepted.says)
+accepted-complete text d accepted = subst AreComplete (sym accepted.told) (complete_canonical (data_told accepted.blocks) (told-complete accepted.blocks text accepted.sets_accepted accepted.data_accepted accepted.says))
