@@ -1,9 +1,7 @@
 -- The base example: one region R, technology T, fuel F, mode of operation 1, timeslice D and year 2020, no emission, and defaults alone.
 use Rattle.std.specs.Prelude.{ℕ, ◌^◌, ◌*◌, ℤ, pos, neg_ℤ, Bool, true, false, List, [], ◌∷◌, ◌++◌, codes}
-use Rattle.std.specs.List.{enumerate_from}
+use Rattle.named_equations.proofs.Common.{enumerate_from, Data, Default, Given, SetLists}
 use Rattle.std.specs.Prelude.{map}
-use Rattle.model_sets.specs.Data.{Data, Default, Given}
-use Rattle.model_sets.specs.Members.{SetLists}
 
 -- a whole number in billionths
 abbrev pub whole : ℕ → ℤ

@@ -1,10 +1,6 @@
 -- The instances and the variables of the base example, and what other values add to them or take from them.
-use Rattle.std.proofs.Common.{◌≡◌, [], ◌∷◌, length, map, refl}
-use Rattle.named_equations.specs.Indices.{index}
-use Rattle.named_equations.specs.Existence.{all_variables}
-use Rattle.named_equations.specs.Instances.{instances, name_at}
+use Rattle.named_equations.proofs.Common.{◌≡◌, [], ◌∷◌, length, map, refl, index, all_variables, instances, name_at, variable}
 use Rattle.named_equations.specs.Table.{named_equations}
-use Rattle.named_equations.specs.Variables.{variable}
 use Rattle.named_equations.proofs.BaseFile.{base}
 
 number_of_equations : length named_equations ≡ 64

@@ -1,10 +1,5 @@
 -- The best plan of the base example meets its equations and costs 80; with any value raised by a billionth it breaks one.
-use Rattle.std.proofs.Common.{◌≡◌, ℕ, ◌+◌, ◌-◌, ◌*◌, ◌^◌, ℤ, pos, true, List, [], ◌∷◌, map, refl}
-use Rattle.std.specs.Prelude.{Some, nat_eq, if◌then◌else◌, slice_index_or}
-use Rattle.row_core.specs.declared.Var.{Var}
-use Rattle.discount_factors.specs.Factors.{discounted, capital_factor, root_from, half_year_root, operating_factor, salvage_fraction}
-use Rattle.named_equations.specs.Existence.{all_variables}
-use Rattle.named_equations.specs.Plans.{cost}
+use Rattle.named_equations.proofs.Common.{◌≡◌, ℕ, ◌+◌, ◌-◌, ◌*◌, ◌^◌, ℤ, pos, true, List, [], ◌∷◌, map, refl, Some, nat_eq, if◌then◌else◌, slice_index_or, Var, discounted, capital_factor, root_from, half_year_root, operating_factor, salvage_fraction, all_variables, cost}
 use Rattle.named_equations.proofs.BaseFile.{base}
 use Rattle.named_equations.proofs.Tables.{meets_all, first_broken}
 

@@ -1,19 +1,6 @@
 -- Both sides of each of the 64 equations at one index, over sets of seven sizes, so that a sum over another set, a lost factor or term, and a right side
 -- without the common denominator would show. The figures were worked out by a program of another kind, in exact fractions, from the published statements.
-use Rattle.std.proofs.Common.{◌≡◌, ℕ, ◌+◌, ◌*◌, ◌^◌, ℤ, pos, negsuc, false, List, [], ◌∷◌, map, refl}
-use Rattle.std.specs.Prelude.{codes}
-use Rattle.std.specs.List.{range_with_len}
-use Rattle.model_sets.specs.declared.param_numbers.TheConstants.{DEPRECIATION_METHOD, DISCOUNT_RATE, EMISSION_ACTIVITY_RATIO, INPUT_ACTIVITY_RATIO, OPERATIONAL_LIFE, OUTPUT_ACTIVITY_RATIO, USED_PARAM_COUNT}
-use Rattle.model_sets.specs.Data.{Data, Default, Given}
-use Rattle.model_sets.specs.Members.{SetLists}
-use Rattle.row_core.specs.declared.Index.{Index}
-use Rattle.row_core.specs.declared.Var.{Var}
-use Rattle.row_core.specs.Statements.{Statement}
-use Rattle.discount_factors.specs.Factors.{discounted, capital_factor, root_from, half_year_root, operating_factor, salvage_fraction}
-use Rattle.named_equations.specs.Indices.{index}
-use Rattle.named_equations.specs.Instances.{name_at}
-use Rattle.named_equations.specs.Notation.{◌equals◌, ◌at_most◌, ◌at_least◌}
-use Rattle.named_equations.specs.Plans.{says}
+use Rattle.named_equations.proofs.Common.{◌≡◌, ℕ, ◌+◌, ◌*◌, ◌^◌, ℤ, pos, negsuc, false, List, [], ◌∷◌, map, refl, codes, range_with_len, DEPRECIATION_METHOD, DISCOUNT_RATE, EMISSION_ACTIVITY_RATIO, INPUT_ACTIVITY_RATIO, OPERATIONAL_LIFE, OUTPUT_ACTIVITY_RATIO, USED_PARAM_COUNT, Data, Default, Given, SetLists, Index, Var, Statement, discounted, capital_factor, root_from, half_year_root, operating_factor, salvage_fraction, index, name_at, ◌equals◌, ◌at_most◌, ◌at_least◌, says}
 use Rattle.named_equations.proofs.BaseFile.{default, given, sets_of}
 
 -- ---- data

@@ -1,14 +1,6 @@
 -- The base example with a life of two years and a rate of the technology's own of 0.1: its best plan under either profile and at both scales, what it
 -- costs, and the plans of one profile and one scale, which break CC1 of another.
-use Rattle.std.proofs.Common.{◌≡◌, ℕ, ◌+◌, ◌-◌, ◌*◌, ◌^◌, ℤ, pos, true, List, [], ◌∷◌, refl}
-use Rattle.std.specs.Prelude.{Some, codes, slice_index_or}
-use Rattle.discount_factors.specs.Factors.{annuity, capital_factor, discounted, half_year_root, operating_factor, recovery_factor, root_from, salvage_fraction}
-use Rattle.model_sets.specs.declared.param_numbers.TheConstants.{DISCOUNT_RATE_IDV, OPERATIONAL_LIFE}
-use Rattle.model_sets.specs.Data.{Data, Default}
-use Rattle.row_core.specs.declared.Var.{Var}
-use Rattle.row_core.specs.declared.equation_numbers.TheConstants.{CC1}
-use Rattle.named_equations.specs.Plans.{cost}
-use Rattle.named_equations.specs.WrittenFactors.{annuity_of, recovery_factor_of}
+use Rattle.named_equations.proofs.Common.{◌≡◌, ℕ, ◌+◌, ◌-◌, ◌*◌, ◌^◌, ℤ, pos, true, List, [], ◌∷◌, refl, Some, codes, slice_index_or, annuity, capital_factor, discounted, half_year_root, operating_factor, recovery_factor, root_from, salvage_fraction, DISCOUNT_RATE_IDV, OPERATIONAL_LIFE, Data, Default, Var, CC1, cost, annuity_of, recovery_factor_of}
 use Rattle.named_equations.proofs.BaseFile.{base_sets, data_of, default, second_of, whole}
 use Rattle.named_equations.proofs.Tables.{meets_all, first_broken}
 

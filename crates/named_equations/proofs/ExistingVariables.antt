@@ -1,13 +1,6 @@
 -- Equations speak of variables that exist and of no others: what they say of any plan is what they say of the plan that has 0 for all variables that
 -- don't exist. Computed for the base example, and with two members of each set.
-use Rattle.std.proofs.Common.{◌≡◌, ℕ, ℤ, pos, List, [], ◌∷◌, map, refl}
-use Rattle.std.specs.Prelude.{if◌then◌else◌}
-use Rattle.model_sets.specs.Data.{Data}
-use Rattle.row_core.specs.declared.Var.{Var}
-use Rattle.row_core.specs.Statements.{Statement}
-use Rattle.named_equations.specs.Existence.{exists}
-use Rattle.named_equations.specs.Instances.{instances_of}
-use Rattle.named_equations.specs.Plans.{says}
+use Rattle.named_equations.proofs.Common.{◌≡◌, ℕ, ℤ, pos, List, [], ◌∷◌, map, refl, if◌then◌else◌, Data, Var, Statement, exists, instances_of, says}
 use Rattle.named_equations.proofs.BaseFile.{base}
 use Rattle.named_equations.proofs.TwoOfEach.{wide}
 

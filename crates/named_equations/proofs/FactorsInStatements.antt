@@ -1,16 +1,6 @@
 -- Both sides of each equation with written factors at nine decimal places, and of CC1 under profile 2 at both scales, over the sets and at the index of
 -- `BothSides`. The figures were worked out by a program of another kind, from the published statements.
-use Rattle.std.proofs.Common.{◌≡◌, ℕ, ◌*◌, ◌^◌, pos, Bool, true, false, List, [], ◌∷◌, map, refl}
-use Rattle.std.specs.Prelude.{codes, if◌then◌else◌, nat_eq}
-use Rattle.discount_factors.specs.Factors.{annuity, capital_factor, discounted, half_year_root, operating_factor, recovery_factor, root_from, salvage_fraction}
-use Rattle.model_sets.specs.declared.param_numbers.TheConstants.{DISCOUNT_RATE_IDV, OPERATIONAL_LIFE}
-use Rattle.model_sets.specs.Data.{Data, Given}
-use Rattle.row_core.specs.declared.equation_numbers.TheConstants.{CC1, CC2, E5, OC4, SV1, SV2, SV4}
-use Rattle.row_core.specs.declared.kind_numbers.TheConstants.{NEW_CAPACITY}
-use Rattle.row_core.specs.Statements.{Statement}
-use Rattle.named_equations.specs.Instances.{name_at}
-use Rattle.named_equations.specs.Notation.{◌equals◌}
-use Rattle.named_equations.specs.Plans.{meets, says}
+use Rattle.named_equations.proofs.Common.{◌≡◌, ℕ, ◌*◌, ◌^◌, pos, Bool, true, false, List, [], ◌∷◌, map, refl, codes, if◌then◌else◌, nat_eq, annuity, capital_factor, discounted, half_year_root, operating_factor, recovery_factor, root_from, salvage_fraction, DISCOUNT_RATE_IDV, OPERATIONAL_LIFE, Data, Given, CC1, CC2, E5, OC4, SV1, SV2, SV4, NEW_CAPACITY, Statement, name_at, ◌equals◌, meets, says}
 use Rattle.named_equations.proofs.BaseFile.{default, given}
 use Rattle.named_equations.proofs.BothSides.{hundredths, spelled, there, uneven, uneven_defaults}
 

@@ -1,25 +1,9 @@
 -- What makes a plan feasible: a positive common denominator, every equation, and the sign of every variable that isn't free. Plans that are so, and
 -- one near miss of each.
-use Rattle.std.proofs.Common.{◌≡◌, ℕ, ◌<◌, inl, inr, ℤ, pos, negsuc, Bool, true, false, ◌||◌, List, [], ◌∷◌, refl, sym, ap, ◌∙◌, arith, true≢false}
-use Rattle.std.specs.Prelude.{◌≤ℤ◌, ◌&&◌, codes, int_le, if◌then◌else◌, nat_eq}
-use Rattle.std.specs.List.{list_all}
-use Rattle.std.proofs.lemmas.Bool.{and_parts}
-use Rattle.std.proofs.lemmas.Int.{ints}
-use Rattle.model_sets.specs.declared.param_numbers.TheConstants.{OPERATIONAL_LIFE, RESIDUAL_CAPACITY}
-use Rattle.model_sets.specs.Data.{Data}
-use Rattle.discount_factors.specs.Factors.{discounted, capital_factor, root_from, half_year_root, operating_factor, salvage_fraction}
-use Rattle.row_core.specs.declared.RowName.{RowName}
-use Rattle.row_core.specs.declared.Var.{Var}
-use Rattle.row_core.specs.declared.kind_numbers.TheConstants.{RATE_OF_ACTIVITY}
-use Rattle.row_core.specs.Kinds.{kind_is_free}
+use Rattle.named_equations.proofs.Common.{◌≡◌, ℕ, ◌<◌, inl, inr, ℤ, pos, negsuc, Bool, true, false, ◌||◌, List, [], ◌∷◌, refl, sym, ap, ◌∙◌, arith, true≢false, ◌≤ℤ◌, ◌&&◌, codes, int_le, if◌then◌else◌, nat_eq, list_all, and_parts, ints, OPERATIONAL_LIFE, RESIDUAL_CAPACITY, Data, discounted, capital_factor, root_from, half_year_root, operating_factor, salvage_fraction, RowName, Var, RATE_OF_ACTIVITY, kind_is_free, all_variables, instances, Feasible, MeetsEach, meets, says, new_capacity, Has}
 use Rattle.row_core.proofs.StatementLaws.{holds_complete, holds_sound}
-use Rattle.named_equations.specs.Existence.{all_variables}
-use Rattle.named_equations.specs.Instances.{instances}
-use Rattle.named_equations.specs.Plans.{Feasible, MeetsEach, meets, says}
-use Rattle.named_equations.specs.Variables.{new_capacity}
 use Rattle.named_equations.proofs.BaseFile.{base, base_sets, data_of, default, whole}
 use Rattle.named_equations.proofs.BasePlan.{best, best_meets_all}
-use Rattle.row_core.proofs.Members.{Has}
 use Rattle.named_equations.proofs.InstanceTests.{Has-variables}
 use Rattle.named_equations.proofs.Tables.{meets_all, tabled}
 use Rattle.named_equations.proofs.Trades.{both_ways, meets_both_ways, regional, routes_both_ways}

@@ -1,9 +1,6 @@
 -- Lists of fractions as plans.
-use Rattle.std.proofs.Common.{◌≡◌, ℕ, ℤ, pos, List, [], ◌∷◌, map, refl}
+use Rattle.named_equations.proofs.Common.{◌≡◌, ℕ, ℤ, pos, List, [], ◌∷◌, map, refl, Var, Value, common_denominator, whole_at, new_capacity, accumulated_new_capacity, total_capacity_annual, trade}
 use Rattle.std.specs.Prelude.{negsuc}
-use Rattle.row_core.specs.declared.Var.{Var}
-use Rattle.named_equations.specs.Plans.{Value, common_denominator, whole_at}
-use Rattle.named_equations.specs.Variables.{new_capacity, accumulated_new_capacity, total_capacity_annual, trade}
 
 -- the value top over bottom
 abbrev value : Var → ℤ → ℕ → Value

@@ -1,22 +1,8 @@
 -- The instances ascend by equation and then by subscripts, and so do the variables that exist.
-use Rattle.std.proofs.Common.{◌≡◌, ℕ, ◌<◌, Bool, true, false, cond, List, [], ◌∷◌, filter, ap, ◌∙◌, refl, arith, ap₂, lt-ltb, le-ltb, eq-eqb}
-use Rattle.std.specs.List.{range_with_len}
-use Rattle.std.specs.Ordering.{nat_cmp, ordering_then}
-use Rattle.std.specs.Prelude.{◌==◌}
-use Rattle.std.specs.declared.cmp.Ordering.{Ordering}
+use Rattle.named_equations.proofs.Common.{◌≡◌, ℕ, ◌<◌, Bool, true, false, cond, List, [], ◌∷◌, filter, ap, ◌∙◌, refl, arith, ap₂, lt-ltb, le-ltb, eq-eqb, range_with_len, nat_cmp, ordering_then, ◌==◌, Ordering, Data, Index, RowName, Var, ascends, subscripts_of_kind, exists_at, kind_numbers, variables_of_kind, all_variables, index, set_at, is_one_of, values_at, each, indices, name_at, subscripts_of, stands_at, instances_of, instances, equation_numbers, count_of, variable}
 use Rattle.std.specs.declared.cmp.Ordering.TheVariants.{Less, Equal, Greater}
-use Rattle.model_sets.specs.Data.{Data}
-use Rattle.row_core.specs.declared.Index.{Index}
-use Rattle.row_core.specs.declared.RowName.{RowName}
-use Rattle.row_core.specs.declared.Var.{Var}
-use Rattle.row_core.specs.Numbers.{ascends}
 use Rattle.row_core.specs.Order.{index_cmp, var_cmp, row_name_cmp}
 use Rattle.row_core.specs.Subscripts as place
-use Rattle.named_equations.specs.Existence.{subscripts_of_kind, exists_at, kind_numbers, variables_of_kind, all_variables}
-use Rattle.named_equations.specs.Indices.{index}
-use Rattle.named_equations.specs.Instances.{set_at, is_one_of, values_at, each, indices, name_at, subscripts_of, stands_at, instances_of, instances, equation_numbers}
-use Rattle.named_equations.specs.Positions.{count_of}
-use Rattle.named_equations.specs.Variables.{variable}
 use Rattle.named_equations.proofs.SortedLists.{Every, Every-all, Every-flat_map, Every-weaker, Every-map, Sorted, Sorted-filter, Sorted-map, Sorted-flat_map, Grows, Grows-range, ascends-from_Sorted}
 
 -- ---- comparing numbers

@@ -1,19 +1,7 @@
 -- An index, a row name or a variable is in its list exactly where its test passes.
-use Rattle.std.proofs.Common.{◌≡◌, ℕ, zero, suc, ◌+◌, ◌<◌, ◌≤◌, Bool, true, false, cond, List, [], ◌∷◌, filter, ap, sym, ◌∙◌, refl, subst, arith, inl, inr, lt-ltb, ltb-true, eq-eqb, eqb-true, true≢false, eq-or-lt_of_le}
+use Rattle.named_equations.proofs.Common.{◌≡◌, ℕ, zero, suc, ◌+◌, ◌<◌, ◌≤◌, Bool, true, false, cond, List, [], ◌∷◌, filter, ap, sym, ◌∙◌, refl, subst, arith, inl, inr, lt-ltb, ltb-true, eq-eqb, eqb-true, true≢false, eq-or-lt_of_le, list_any, range_with_len, and_parts, or_cases, Data, Index, RowName, Var, Has, Contains-from_Has, Has-from_Contains, Has-flat_map, flat_map_parts, Has-filter, filter_parts, Has-map, map_parts, subscripts_of_kind, exists_at, kind_numbers, variables_of_kind, all_variables, exists, index, set_at, is_one_of, values_at, is_value_at, is_index, indices, name_at, subscripts_of, stands_at, instances_of, instances, equation_numbers, is_instance, count_of, variable}
 use Rattle.std.specs.Prelude.{◌&&◌, ◌||◌, ◌↔◌, nat_lt, nat_eq, Contains}
-use Rattle.std.specs.List.{list_any, range_with_len}
-use Rattle.std.proofs.lemmas.Bool.{and_parts, or_cases}
-use Rattle.model_sets.specs.Data.{Data}
-use Rattle.row_core.specs.declared.Index.{Index}
-use Rattle.row_core.specs.declared.RowName.{RowName}
-use Rattle.row_core.specs.declared.Var.{Var}
 use Rattle.row_core.specs.Subscripts as place
-use Rattle.row_core.proofs.Members.{Has, Contains-from_Has, Has-from_Contains, Has-flat_map, flat_map_parts, Has-filter, filter_parts, Has-map, map_parts}
-use Rattle.named_equations.specs.Existence.{subscripts_of_kind, exists_at, kind_numbers, variables_of_kind, all_variables, exists}
-use Rattle.named_equations.specs.Indices.{index}
-use Rattle.named_equations.specs.Instances.{set_at, is_one_of, values_at, is_value_at, is_index, indices, name_at, subscripts_of, stands_at, instances_of, instances, equation_numbers, is_instance}
-use Rattle.named_equations.specs.Positions.{count_of}
-use Rattle.named_equations.specs.Variables.{variable}
 use Rattle.named_equations.proofs.InstanceOrder.{from_rr, from_l, from_t, from_f, from_e, from_m, from_y}
 
 -- ---- numbers

@@ -1,3 +1,4 @@
+pub mod Common
 mod BaseFile
 mod BaseInstances
 mod BasePlan

@@ -1,6 +1,5 @@
 -- Where the limits stand: -1 and 0 as "no limit".
-use Rattle.std.proofs.Common.{◌≡◌, ℕ, ℤ, pos, negsuc, List, [], ◌∷◌, length, map, refl}
-use Rattle.named_equations.specs.Instances.{instances_of}
+use Rattle.named_equations.proofs.Common.{◌≡◌, ℕ, ℤ, pos, negsuc, List, [], ◌∷◌, length, map, refl, instances_of}
 use Rattle.named_equations.proofs.BaseFile.{base_with, default, whole, minus_one}
 
 -- how many instances the equation has in the base example, where the parameter has each of these values

@@ -1,7 +1,6 @@
 -- A realistic example: one region, six technologies, four fuels, four timeslices and some years, with a penalty on an emission.
 use Rattle.std.specs.Prelude.{ℕ, ◌+◌, ◌*◌, ℤ, pos, false, List, [], ◌∷◌, ◌++◌, codes, map, slice_index_or}
-use Rattle.std.specs.List.{flat_map, range_with_len}
-use Rattle.model_sets.specs.Data.{Data, Given}
+use Rattle.named_equations.proofs.Common.{flat_map, range_with_len, Data, Given}
 use Rattle.named_equations.proofs.BaseFile.{whole, minus_one, given, sets_of, defaults_from}
 
 -- ---- names

@@ -1,12 +1,6 @@
 -- How many instances each equation has in the realistic example with five years, 2183 in all, of which 280 are inequalities, and how many variables of
 -- each kind exist, 2053 in all.
-use Rattle.std.proofs.Common.{◌≡◌, ℕ, pos, Bool, true, false, List, [], ◌∷◌, length, map, filter, refl}
-use Rattle.discount_factors.specs.Factors.{discounted, capital_factor, root_from, half_year_root, operating_factor, salvage_fraction}
-use Rattle.row_core.specs.declared.Sense.{Sense}
-use Rattle.row_core.specs.declared.Sense.TheVariants.{Least, Equal, Most}
-use Rattle.named_equations.specs.Existence.{variables_of_kind, kind_numbers, definers}
-use Rattle.named_equations.specs.Indices.{index}
-use Rattle.named_equations.specs.Instances.{instances_of, equation_of, equation_numbers}
+use Rattle.named_equations.proofs.Common.{◌≡◌, ℕ, pos, Bool, true, false, List, [], ◌∷◌, length, map, filter, refl, discounted, capital_factor, root_from, half_year_root, operating_factor, salvage_fraction, Sense, Least, Equal, Most, variables_of_kind, kind_numbers, definers, index, instances_of, equation_of, equation_numbers}
 use Rattle.named_equations.proofs.MadeFile.{made}
 
 -- how many instances these equations have

@@ -1,10 +1,6 @@
 -- Terms that are added for one position after another, several for each.
-use Rattle.std.proofs.Common.{◌≡◌, ℕ, suc, ◌+◌, ◌-◌, ◌<◌, ◌≤◌, List, [], ◌∷◌, ◌++◌, refl, ap, ◌∙◌, arith}
-use Rattle.std.specs.List.{range_with_len}
-use Rattle.row_core.specs.declared.Var.{Var}
-use Rattle.row_core.specs.Amounts.{Amount}
+use Rattle.named_equations.proofs.Common.{◌≡◌, ℕ, suc, ◌+◌, ◌-◌, ◌<◌, ◌≤◌, List, [], ◌∷◌, ◌++◌, refl, ap, ◌∙◌, arith, range_with_len, Var, Amount, for_each}
 use Rattle.row_core.specs.Calculated.{Side, number_of, with_number, with_amounts}
-use Rattle.named_equations.specs.TermShapes.{for_each}
 
 -- terms, and then others
 with_amounts-append : (terms more : List (Var × Amount)) (side : Side) → with_amounts (terms ++ more) side ≡ with_amounts more (with_amounts terms side)

@@ -1,11 +1,5 @@
 -- The base example over 2020, 2021 and 2025 with written factors of nine decimal places: the factors, and the best plan at the sinking fund with its cost.
-use Rattle.std.proofs.Common.{◌≡◌, ℕ, ◌*◌, ◌^◌, ℤ, pos, true, List, [], ◌∷◌, map, refl}
-use Rattle.std.specs.Prelude.{Some}
-use Rattle.discount_factors.specs.Factors.{capital_factor, discounted, half_year_root, operating_factor, root_from, salvage_fraction}
-use Rattle.row_core.specs.declared.Var.{Var}
-use Rattle.row_core.specs.declared.equation_numbers.TheConstants.{CC2}
-use Rattle.named_equations.specs.Plans.{cost}
-use Rattle.named_equations.specs.WrittenFactors.{capital_factor_of, operating_factor_of, salvage_fraction_of}
+use Rattle.named_equations.proofs.Common.{◌≡◌, ℕ, ◌*◌, ◌^◌, ℤ, pos, true, List, [], ◌∷◌, map, refl, Some, capital_factor, discounted, half_year_root, operating_factor, root_from, salvage_fraction, Var, CC2, cost, capital_factor_of, operating_factor_of, salvage_fraction_of}
 use Rattle.named_equations.proofs.Tables.{first_broken, meets_all, tabled}
 use Rattle.named_equations.proofs.YearsWithGap.{each_year, over_the_gap, sinking}
 

@@ -1,11 +1,5 @@
 -- Each parameter takes the value that the data give under its name, at members of the sets of its subscripts in their order.
-use Rattle.std.proofs.Common.{◌≡◌, ℕ, ◌-◌, ℤ, pos, true, List, [], ◌∷◌, filter, map, refl}
-use Rattle.std.specs.Prelude.{codes, slice_index_or}
-use Rattle.std.specs.List.{range_with_len}
-use Rattle.model_sets.specs.declared.param_numbers.TheConstants.{PARAM_COUNT}
-use Rattle.model_sets.specs.Data.{Data, Given}
-use Rattle.model_sets.specs.Params.{is_used, param_at, param_word, subscript_sets}
-use Rattle.named_equations.specs.Parameters.{year_split, discount_rate, depreciation_method, trade_route, specified_annual_demand, specified_demand_profile, accumulated_annual_demand, capacity_to_activity_unit, capacity_factor, availability_factor, operational_life, residual_capacity, input_activity_ratio, output_activity_ratio, capital_cost, variable_cost, fixed_cost, capacity_of_one_technology_unit, total_annual_max_capacity, total_annual_min_capacity, total_annual_max_capacity_investment, total_annual_min_capacity_investment, total_technology_annual_activity_upper_limit, total_technology_annual_activity_lower_limit, total_technology_model_period_activity_upper_limit, total_technology_model_period_activity_lower_limit, reserve_margin_tag_technology, reserve_margin_tag_fuel, reserve_margin, re_tag_technology, re_tag_fuel, re_min_production_target, emission_activity_ratio, emissions_penalty, annual_exogenous_emission, annual_emission_limit, model_period_exogenous_emission, model_period_emission_limit, discount_rate_idv}
+use Rattle.named_equations.proofs.Common.{◌≡◌, ℕ, ◌-◌, ℤ, pos, true, List, [], ◌∷◌, filter, map, refl, codes, slice_index_or, range_with_len, PARAM_COUNT, Data, Given, is_used, param_at, param_word, subscript_sets, year_split, discount_rate, depreciation_method, trade_route, specified_annual_demand, specified_demand_profile, accumulated_annual_demand, capacity_to_activity_unit, capacity_factor, availability_factor, operational_life, residual_capacity, input_activity_ratio, output_activity_ratio, capital_cost, variable_cost, fixed_cost, capacity_of_one_technology_unit, total_annual_max_capacity, total_annual_min_capacity, total_annual_max_capacity_investment, total_annual_min_capacity_investment, total_technology_annual_activity_upper_limit, total_technology_annual_activity_lower_limit, total_technology_model_period_activity_upper_limit, total_technology_model_period_activity_lower_limit, reserve_margin_tag_technology, reserve_margin_tag_fuel, reserve_margin, re_tag_technology, re_tag_fuel, re_min_production_target, emission_activity_ratio, emissions_penalty, annual_exogenous_emission, annual_emission_limit, model_period_exogenous_emission, model_period_emission_limit, discount_rate_idv}
 use Rattle.named_equations.proofs.BaseFile.{given, sets_of}
 
 -- the second member of each set, by the number of the set

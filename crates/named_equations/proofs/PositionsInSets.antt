@@ -1,13 +1,9 @@
 -- The subscripts that an equation has lie in their sets.
 use Rattle.std.proofs.Common.{◌≡◌, ℕ, ◌<◌, Bool, true, ◌&&◌, List, nat_eq, nat_lt, ap, sym, ◌∙◌, subst, arith}
-use Rattle.std.specs.Prelude.{if◌then◌else◌}
-use Rattle.model_sets.specs.Data.{Data}
+use Rattle.named_equations.proofs.Common.{if◌then◌else◌, Data, Index, is_index, is_one_of, is_value_at, subscripts_of, count_of}
 use Rattle.model_sets.specs.Names as names
-use Rattle.row_core.specs.declared.Index.{Index}
 use Rattle.row_core.specs.Subscripts as place
 use Rattle.row_core.proofs.AscendingLaws.{both_passed}
-use Rattle.named_equations.specs.Instances.{is_index, is_one_of, is_value_at, subscripts_of}
-use Rattle.named_equations.specs.Positions.{count_of}
 
 pub record AreInSets (d : Data) (subscripts : List ℕ) (i : Index) : Type 0 where
   pub region : is_one_of subscripts place.r ≡ true → i.region < count_of d names.region

@@ -1,11 +1,7 @@
 -- Which factors are those of the base example's one region: rate 0, one year and a life of 1; and which nearly are.
-use Rattle.std.proofs.Common.{◌≡◌, ℕ, zero, suc, ◌<◌, ◌≤◌, [], ◌∷◌, refl, subst, arith}
-use Rattle.std.specs.Prelude.{Some, slice_get}
+use Rattle.named_equations.proofs.Common.{◌≡◌, ℕ, zero, suc, ◌<◌, ◌≤◌, [], ◌∷◌, refl, subst, arith, Some, slice_get, technology, count_of, life_of}
 use Rattle.discount_factors.specs.Known.{Discounting}
-use Rattle.model_sets.specs.Names.{technology}
-use Rattle.named_equations.specs.Positions.{count_of}
 use Rattle.named_equations.specs.RegionFactors.{AreFactorsOf, AreRegionFactors, places_of}
-use Rattle.named_equations.specs.WrittenFactors.{life_of}
 use Rattle.named_equations.proofs.BaseFile.{base}
 
 abbrev made : ℕ → ℕ → ℕ → Discounting

@@ -1,16 +1,7 @@
 -- Two data that are the same have the same conditions, members and written factors, at positions in the sets.
 use Rattle.std.proofs.Common.{◌≡◌, ℕ, ◌/◌, ◌+◌, pos, not, ◌&&◌, ◌||◌, List, nat_eq, nat_lt, true, ap, ap₂}
 use Rattle.std.specs.Prelude.{◌^◌, nat_le, unsigned_abs}
-use Rattle.discount_factors.specs.Factors.{annuity, capital_factor, operating_factor, recovery_factor, salvage_fraction}
-use Rattle.model_sets.specs.Data.{Data, Default, Given}
-use Rattle.model_sets.specs.Members.{last_year}
-use Rattle.model_sets.specs.Names.{technology, fuel, mode, year}
-use Rattle.named_equations.specs.Capacity.{still_counts, years_counting}
-use Rattle.named_equations.specs.Positions.{count_of, number_of_year, years_left}
-use Rattle.named_equations.specs.Salvage.{outlasts, by_sinking_fund, by_straight_line, has_sv1, has_sv2, has_sv3}
-use Rattle.named_equations.specs.Where.{is_not_zero, produces_in_mode, produces, producing_modes, producing_technologies, produced_fuels, uses_in_mode, uses, using_modes, using_technologies, emits_in_mode, emitting_modes}
-use Rattle.named_equations.specs.Within.{IsRegion, IsTechnology, IsFuel, IsEmission, IsMode, IsYear}
-use Rattle.named_equations.specs.WrittenFactors.{rate_of, method_of, life_of, annuity_of, capital_factor_of, operating_factor_of, recovery_factor_of, salvage_fraction_of}
+use Rattle.named_equations.proofs.Common.{annuity, capital_factor, operating_factor, recovery_factor, salvage_fraction, Data, Default, Given, last_year, technology, fuel, mode, year, still_counts, years_counting, count_of, number_of_year, years_left, outlasts, by_sinking_fund, by_straight_line, has_sv1, has_sv2, has_sv3, is_not_zero, produces_in_mode, produces, producing_modes, producing_technologies, produced_fuels, uses_in_mode, uses, using_modes, using_technologies, emits_in_mode, emitting_modes, IsRegion, IsTechnology, IsFuel, IsEmission, IsMode, IsYear, rate_of, method_of, life_of, annuity_of, capital_factor_of, operating_factor_of, recovery_factor_of, salvage_fraction_of}
 use Rattle.named_equations.proofs.SameParameters.{discount_rate-same, discount_rate_idv-same, depreciation_method-same, operational_life-same, input_activity_ratio-same, output_activity_ratio-same, emission_activity_ratio-same}
 use Rattle.named_equations.proofs.SameValues.{Agree, with_values, filter-same, any-same}
 

@@ -1,19 +1,8 @@
 -- Two data that are the same say the same of every plan, at positions in the sets, by each of the named equations.
-use Rattle.std.proofs.Common.{◌≡◌, ℕ, ◌*ℤ◌, Bool, true, false, List, refl, ap, ◌∙◌}
+use Rattle.named_equations.proofs.Common.{◌≡◌, ℕ, ◌*ℤ◌, Bool, true, false, List, refl, ap, ◌∙◌, Data, Default, Given, Index, EQ_SPECIFIED_DEMAND, CAA1, CAA2, CAA3, CAA4, CAB1, EBA1, EBA2, EBA3, EBA4, EBA5, EBA6, EBA7, EBA8, EBA9, EBA10, EBA11, EBB1, EBB2, EBB3, EBB4, ACC1, ACC2, ACC3, CC1, CC2, SV1, SV2, SV3, SV4, OC1, OC2, OC3, OC4, E1, E2, E3, E4, E5, TDC1, TDC2, ACC4, TCC1, TCC2, NCC1, NCC2, AAC1, AAC2, AAC3, TAC1, TAC2, TAC3, RM1, RM2, RM3, RE1, RE2, RE3, RE4, RE5, E6, E7, E8, E9, EQUATION_COUNT, Var, name_at, subscripts_of, sum_over, capacity_factor, capacity_to_activity_unit, re_tag_fuel, re_tag_technology, reserve_margin_tag_fuel, reserve_margin_tag_technology, trade_route, variable_cost, year_split, says, count_of, fuels, years_in_all, years_since_first, production_by_technology_annual, rate_of_activity, rate_of_production, rate_of_total_activity, total_annual_technology_activity_by_mode, total_capacity_annual, trade, trade_annual, produced_fuels}
 use Rattle.std.specs.Prelude.{ℤ, if◌then◌else◌}
-use Rattle.model_sets.specs.Data.{Data, Default, Given}
 use Rattle.model_sets.specs.Names as sets
-use Rattle.row_core.specs.declared.Index.{Index}
-use Rattle.row_core.specs.declared.equation_numbers.TheConstants.{EQ_SPECIFIED_DEMAND, CAA1, CAA2, CAA3, CAA4, CAB1, EBA1, EBA2, EBA3, EBA4, EBA5, EBA6, EBA7, EBA8, EBA9, EBA10, EBA11, EBB1, EBB2, EBB3, EBB4, ACC1, ACC2, ACC3, CC1, CC2, SV1, SV2, SV3, SV4, OC1, OC2, OC3, OC4, E1, E2, E3, E4, E5, TDC1, TDC2, ACC4, TCC1, TCC2, NCC1, NCC2, AAC1, AAC2, AAC3, TAC1, TAC2, TAC3, RM1, RM2, RM3, RE1, RE2, RE3, RE4, RE5, E6, E7, E8, E9, EQUATION_COUNT}
-use Rattle.row_core.specs.declared.Var.{Var}
 use Rattle.named_equations.specs.CapitalCosts.{paid_at_once, recovered}
-use Rattle.named_equations.specs.Instances.{name_at, subscripts_of}
-use Rattle.named_equations.specs.Notation.{sum_over}
-use Rattle.named_equations.specs.Parameters.{capacity_factor, capacity_to_activity_unit, re_tag_fuel, re_tag_technology, reserve_margin_tag_fuel, reserve_margin_tag_technology, trade_route, variable_cost, year_split}
-use Rattle.named_equations.specs.Plans.{says}
-use Rattle.named_equations.specs.Positions.{count_of, fuels, years_in_all, years_since_first}
-use Rattle.named_equations.specs.Variables.{production_by_technology_annual, rate_of_activity, rate_of_production, rate_of_total_activity, total_annual_technology_activity_by_mode, total_capacity_annual, trade, trade_annual}
-use Rattle.named_equations.specs.Where.{produced_fuels}
 use Rattle.named_equations.proofs.PositionsInSets.{AreInSets}
 use Rattle.named_equations.proofs.SameConditions.{annuity_of-same, capital_factor_of-same, emitting_modes-same, operating_factor_of-same, produced_fuels-same, producing_modes-same, producing_technologies-same, recovery_factor_of-same, salvage_fraction_of-same, using_modes-same, using_technologies-same, years_counting-same}
 use Rattle.named_equations.proofs.SameParameters.{accumulated_annual_demand-same, annual_emission_limit-same, annual_exogenous_emission-same, availability_factor-same, capacity_factor-same, capacity_to_activity_unit-same, capital_cost-same, emission_activity_ratio-same, emissions_penalty-same, fixed_cost-same, input_activity_ratio-same, model_period_emission_limit-same, model_period_exogenous_emission-same, output_activity_ratio-same, re_min_production_target-same, re_tag_fuel-same, re_tag_technology-same, reserve_margin-same, reserve_margin_tag_fuel-same, reserve_margin_tag_technology-same, residual_capacity-same, specified_annual_demand-same, specified_demand_profile-same, total_annual_max_capacity-same, total_annual_max_capacity_investment-same, total_annual_min_capacity-same, total_annual_min_capacity_investment-same, total_technology_annual_activity_lower_limit-same, total_technology_annual_activity_upper_limit-same, total_technology_model_period_activity_lower_limit-same, total_technology_model_period_activity_upper_limit-same, trade_route-same, variable_cost-same, year_split-same}

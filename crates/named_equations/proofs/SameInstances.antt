@@ -2,20 +2,7 @@
 use Rattle.std.proofs.Common.{◌≡◌, ℕ, Bool, true, false, cond, ◌&&◌, ◌||◌, List, [], ◌∷◌, ◌++◌, map, filter, nat_eq, ap, ap₂, sym, ◌∙◌, refl, subst, arith, inl, inr, eqb-true, true≢false}
 use Rattle.std.specs.Prelude.{ℤ, ◌↔◌, Contains}
 use Rattle.std.specs.Cmp.Lexicographic.{pointwise}
-use Rattle.std.specs.List.{flat_map, list_any, list_all}
-use Rattle.std.proofs.lemmas.Bool.{and_parts}
-use Rattle.model_sets.specs.Data.{AreSameData, Data, Default, Given, indices_of}
-use Rattle.model_sets.specs.Members.{SetLists}
-use Rattle.model_sets.specs.Params.{is_used, param_at}
-use Rattle.row_core.specs.declared.Index.{Index}
-use Rattle.row_core.specs.declared.RowName.{RowName}
-use Rattle.row_core.specs.declared.Var.{Var}
-use Rattle.row_core.specs.declared.equation_numbers.TheConstants.{EQUATION_COUNT}
-use Rattle.row_core.specs.Statements.{Holds}
-use Rattle.named_equations.specs.Existence.{defines_kind, definers, exists, exists_at, exists_everywhere, kind_numbers, subscripts_of_kind}
-use Rattle.named_equations.specs.Instances.{equation_numbers, indices, instances, instances_of, is_index, is_instance, name_at, stands_at, subscripts_of}
-use Rattle.named_equations.specs.Plans.{cost, Feasible, MeetsEach, says}
-use Rattle.row_core.proofs.Members.{Has, filter_parts}
+use Rattle.named_equations.proofs.Common.{flat_map, list_any, list_all, and_parts, AreSameData, Data, Default, Given, indices_of, SetLists, is_used, param_at, Index, RowName, Var, EQUATION_COUNT, Holds, defines_kind, definers, exists, exists_at, exists_everywhere, kind_numbers, subscripts_of_kind, equation_numbers, indices, instances, instances_of, is_index, is_instance, name_at, stands_at, subscripts_of, cost, Feasible, MeetsEach, says, Has, filter_parts}
 use Rattle.named_equations.proofs.InstanceTests.{any_has, Has-instances, indices-pass, range_parts}
 use Rattle.named_equations.proofs.PositionsInSets.{AreInSets, are_in_sets}
 use Rattle.named_equations.proofs.SameEquations.{SaysSame, all-say}

@@ -1,10 +1,5 @@
 -- Two data that are the same have an instance of each named equation at the same positions in the sets.
-use Rattle.std.proofs.Common.{◌≡◌, ℕ, List, true, refl, ap}
-use Rattle.model_sets.specs.Data.{Data, Default, Given}
-use Rattle.row_core.specs.declared.Index.{Index}
-use Rattle.row_core.specs.declared.equation_numbers.TheConstants.{EBA1, EBA2, EBA4, EBA5, ACC1, ACC2, SV1, SV2, SV3, E1, TCC1, TCC2, NCC1, NCC2, AAC2, AAC3, TAC2, TAC3, RE1, RE5, E8, E9, EQUATION_COUNT}
-use Rattle.named_equations.specs.Instances.{stands_at, subscripts_of}
-use Rattle.named_equations.specs.Where.{is_limit, is_positive}
+use Rattle.named_equations.proofs.Common.{◌≡◌, ℕ, List, true, refl, ap, Data, Default, Given, Index, EBA1, EBA2, EBA4, EBA5, ACC1, ACC2, SV1, SV2, SV3, E1, TCC1, TCC2, NCC1, NCC2, AAC2, AAC3, TAC2, TAC3, RE1, RE5, E8, E9, EQUATION_COUNT, stands_at, subscripts_of, is_limit, is_positive}
 use Rattle.named_equations.proofs.PositionsInSets.{AreInSets}
 use Rattle.named_equations.proofs.SameConditions.{emits_in_mode-same, has_sv1-same, has_sv2-same, has_sv3-same, produces-same, produces_in_mode-same, uses-same, uses_in_mode-same}
 use Rattle.named_equations.proofs.SameParameters.{annual_emission_limit-same, model_period_emission_limit-same, total_annual_max_capacity-same, total_annual_max_capacity_investment-same, total_annual_min_capacity-same, total_annual_min_capacity_investment-same, total_technology_annual_activity_lower_limit-same, total_technology_annual_activity_upper_limit-same, total_technology_model_period_activity_lower_limit-same, total_technology_model_period_activity_upper_limit-same}

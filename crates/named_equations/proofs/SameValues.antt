@@ -1,14 +1,7 @@
 -- Two data that are the same: with the sets of one, the values of both agree at positions in the sets. Sums, lists and choices over a set
 -- are the same where what they are made of is the same at each position of the set.
-use Rattle.std.proofs.Common.{◌≡◌, ℕ, zero, suc, ◌+◌, ◌<◌, Bool, cond, pos, ◌+ℤ◌, List, [], ◌∷◌, map, filter, length, refl, ap, ap₂, ◌∙◌, arith, inl, inr}
+use Rattle.named_equations.proofs.Common.{◌≡◌, ℕ, zero, suc, ◌+◌, ◌<◌, Bool, cond, pos, ◌+ℤ◌, List, [], ◌∷◌, map, filter, length, refl, ap, ap₂, ◌∙◌, arith, inl, inr, flat_map, list_any, range_with_len, Data, Default, Given, IsUsedParam, indices_of, indices_over, value_at, SetLists, members, subscript_sets, sum_over, value_of, Has, Has-flat_map, Has-map, Contains-from_Has}
 use Rattle.std.specs.Prelude.{ℤ, ◌||◌, ◌++◌, slice_index_or, unwrap_or, Contains}
-use Rattle.std.specs.List.{flat_map, list_any, range_with_len}
-use Rattle.model_sets.specs.Data.{Data, Default, Given, IsUsedParam, indices_of, indices_over, value_at}
-use Rattle.model_sets.specs.Members.{SetLists, members}
-use Rattle.model_sets.specs.Params.{subscript_sets}
-use Rattle.named_equations.specs.Notation.{sum_over}
-use Rattle.named_equations.specs.Parameters.{value_of}
-use Rattle.row_core.proofs.Members.{Has, Has-flat_map, Has-map, Contains-from_Has}
 
 infixr 3 ◌also◌
 -- both of two facts, or what follows and more

@@ -1,6 +1,5 @@
 -- Something is true of some position where it is true of this one, or of a later one.
-use Rattle.std.proofs.Common.{◌≡◌, ℕ, suc, ◌+◌, ◌-◌, ◌<◌, ◌≤◌, Bool, true, false, ◌||◌, ap, ◌∙◌, arith}
-use Rattle.std.specs.List.{list_any, range_with_len}
+use Rattle.named_equations.proofs.Common.{◌≡◌, ℕ, suc, ◌+◌, ◌-◌, ◌<◌, ◌≤◌, Bool, true, false, ◌||◌, ap, ◌∙◌, arith, list_any, range_with_len}
 
 -- something is true of some position from i to the end
 abbrev pub any_from : (ℕ → Bool) → ℕ → ℕ → Bool

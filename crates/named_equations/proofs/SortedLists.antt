@@ -1,11 +1,5 @@
 -- Lists of which each element is before every later one, and how they are made from lists of numbers that grow.
-use Rattle.std.proofs.Common.{◌≡◌, ℕ, zero, suc, ◌+◌, ◌<◌, Bool, true, false, cond, List, [], ◌∷◌, ◌++◌, map, filter, ap, ◌∙◌, refl, arith}
-use Rattle.std.specs.List.{flat_map, range_with_len}
-use Rattle.std.specs.Ordering.{is_lt}
-use Rattle.std.specs.Prelude.{◌&&◌}
-use Rattle.std.specs.declared.cmp.Ordering.{Ordering}
-use Rattle.std.specs.declared.cmp.Ordering.TheVariants.{Less}
-use Rattle.row_core.specs.Numbers.{before_first, ascends}
+use Rattle.named_equations.proofs.Common.{◌≡◌, ℕ, zero, suc, ◌+◌, ◌<◌, Bool, true, false, cond, List, [], ◌∷◌, ◌++◌, map, filter, ap, ◌∙◌, refl, arith, flat_map, range_with_len, is_lt, ◌&&◌, Ordering, Less, before_first, ascends}
 
 -- ---- model of every element
 

@@ -1,9 +1,5 @@
 -- A sum over two sets may be taken in either order, also where only some pairs count.
-use Rattle.std.proofs.Common.{◌≡◌, ℕ, ℤ, pos, ◌+ℤ◌, Bool, true, false, List, [], ◌∷◌, filter, refl, sym, ap, ◌∙◌, arith}
-use Rattle.std.specs.Prelude.{if◌then◌else◌}
-use Rattle.std.proofs.lemmas.Int.{ints}
-use Rattle.exact_num.proofs.Ring.{zero-+ℤ}
-use Rattle.named_equations.specs.Notation.{sum_over}
+use Rattle.named_equations.proofs.Common.{◌≡◌, ℕ, ℤ, pos, ◌+ℤ◌, Bool, true, false, List, [], ◌∷◌, filter, refl, sym, ap, ◌∙◌, arith, if◌then◌else◌, ints, zero-+ℤ, sum_over}
 use Rattle.named_equations.proofs.TermMeaning.{sum_over-same, sum_over-zero}
 
 added_apart : (a b c d : ℤ) → (a +ℤ b) +ℤ (c +ℤ d) ≡ (a +ℤ c) +ℤ (b +ℤ d)

@@ -1,13 +1,6 @@
 -- Plans as tables, and which equation a plan breaks first.
-use Rattle.std.proofs.Common.{ℕ, ◌-◌, ℤ, pos, Bool, List, [], not}
-use Rattle.std.specs.Prelude.{Option, find, slice_index_or}
-use Rattle.std.specs.List.{list_all}
+use Rattle.named_equations.proofs.Common.{ℕ, ◌-◌, ℤ, pos, Bool, List, [], not, Option, find, slice_index_or, list_all, Data, Index, Var, instances, meets}
 use Rattle.std.specs.Option.{option_map}
-use Rattle.model_sets.specs.Data.{Data}
-use Rattle.row_core.specs.declared.Index.{Index}
-use Rattle.row_core.specs.declared.Var.{Var}
-use Rattle.named_equations.specs.Instances.{instances}
-use Rattle.named_equations.specs.Plans.{meets}
 
 -- the plan of a table: a list of values for each kind, in which a number made from the subscripts tells the place; 0 where it has none
 abbrev pub tabled : (Index → ℕ) → List (List ℤ) → Var → ℤ

@@ -1,10 +1,5 @@
 -- The base example with a reserve margin, with a renewable target, and with emissions: plans that just meet them, and near misses.
-use Rattle.std.proofs.Common.{◌≡◌, ℤ, pos, negsuc, neg_ℤ, true, List, [], ◌∷◌, refl}
-use Rattle.std.specs.Prelude.{Some, codes, if◌then◌else◌, nat_eq}
-use Rattle.model_sets.specs.Data.{Data}
-use Rattle.discount_factors.specs.Factors.{discounted, capital_factor, root_from, half_year_root, operating_factor, salvage_fraction}
-use Rattle.row_core.specs.declared.Var.{Var}
-use Rattle.named_equations.specs.Plans.{cost}
+use Rattle.named_equations.proofs.Common.{◌≡◌, ℤ, pos, negsuc, neg_ℤ, true, List, [], ◌∷◌, refl, Some, codes, if◌then◌else◌, nat_eq, Data, discounted, capital_factor, root_from, half_year_root, operating_factor, salvage_fraction, Var, cost}
 use Rattle.named_equations.proofs.BaseFile.{sets_of, data_of, base_with, default, given, whole}
 use Rattle.named_equations.proofs.Tables.{tabled, meets_all, first_broken}
 

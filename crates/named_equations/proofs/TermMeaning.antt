@@ -1,30 +1,14 @@
 -- How the terms of an equation mean its statement: once for each shape that equations share.
 use Rattle.std.proofs.Common.{◌≡◌, ℕ, zero, suc, ◌+◌, ◌<◌, ◌≤◌, ◌^◌, ℤ, pos, negsuc, neg_ℤ, ◌+ℤ◌, ◌*ℤ◌, List, [], ◌∷◌, Some, None, inl, inr, refl, sym, ap, ap₂, ◌∙◌, subst, arith}
-use Rattle.std.specs.Prelude.{◌<ℤ◌, ◌≤ℤ◌, ◌↔◌, if◌then◌else◌}
-use Rattle.std.specs.Ordering.{int_cmp, is_eq}
-use Rattle.std.specs.declared.cmp.Ordering.TheVariants.{Greater}
-use Rattle.std.proofs.lemmas.Int.{ints}
+use Rattle.named_equations.proofs.Common.{◌<ℤ◌, ◌≤ℤ◌, ◌↔◌, if◌then◌else◌, int_cmp, is_eq, Greater, ints, *ℤ-+ℤ, *ℤ-zero, *ℤ-one, +ℤ-zero, one-*ℤ, zero-*ℤ, neg_ℤ-*ℤ, neg_ℤ-+ℤ, *ℤ_comm, Data, RowName, Sense, Least, Equal, Most, Var, Amount, Whole, Billionths, Total, Negative, value_of_amount, total_from, total_over, Statement, Stands, Holds, IsOver, IsSumOver, alone, IsOver-plus, IsOver-negated, IsOver-ratio, IsSumOver-gathered, variable_of, ◌equals◌, sum_over, scale_of, says}
 use Rattle.std.proofs.Math.Nat.{eq-or-lt_of_le}
 use Rattle.exact_num.specs.Rational.{lowest, whole}
 use Rattle.exact_num.proofs.Integers.{≤ℤ_or_<ℤ}
 use Rattle.exact_num.proofs.OrderLaws.{int_cmp-less, int_cmp-equal, int_cmp-greater}
-use Rattle.exact_num.proofs.Ring.{*ℤ-+ℤ, *ℤ-zero, *ℤ-one, +ℤ-zero, one-*ℤ, zero-*ℤ, neg_ℤ-*ℤ, neg_ℤ-+ℤ, *ℤ_comm}
-use Rattle.model_sets.specs.Data.{Data}
 use Rattle.row_core.specs.declared.Row.{Row}
-use Rattle.row_core.specs.declared.RowName.{RowName}
-use Rattle.row_core.specs.declared.Sense.{Sense}
-use Rattle.row_core.specs.declared.Sense.TheVariants.{Least, Equal, Most}
-use Rattle.row_core.specs.declared.Var.{Var}
-use Rattle.row_core.specs.Amounts.{Amount, Whole, Billionths, Total, Negative, value_of_amount, total_from, total_over}
 use Rattle.row_core.specs.EquationTerms.{EquationTerms, once, less, each, nothing, coefficients_of, right_of, IsRowOf, SaysWhat}
 use Rattle.row_core.specs.Rows.{RowHolds, number_at}
-use Rattle.row_core.specs.Statements.{Statement, Stands, Holds}
-use Rattle.row_core.specs.Values.{IsOver, IsSumOver, alone}
 use Rattle.row_core.proofs.TermLaws.{same_alike}
-use Rattle.row_core.proofs.SumLaws.{IsOver-plus, IsOver-negated, IsOver-ratio, IsSumOver-gathered}
-use Rattle.named_equations.specs.Instances.{variable_of}
-use Rattle.named_equations.specs.Notation.{◌equals◌, sum_over, scale_of}
-use Rattle.named_equations.specs.Plans.{says}
 use Rattle.named_equations.specs.RowMeaning.{IsNamedRow}
 
 -- ---- sums

@@ -1,17 +1,7 @@
 -- How the terms of an equation mean its statement, for shapes that many equations share: a variable is what others make, another times a number, a sum of products, a sum of such sums; and a part that another variable covers.
-use Rattle.std.proofs.Common.{◌≡◌, ℕ, ◌≤◌, ℤ, pos, neg_ℤ, ◌+ℤ◌, ◌*ℤ◌, List, [], ◌∷◌, ◌++◌, refl, sym, ap, ◌∙◌, subst, arith}
+use Rattle.named_equations.proofs.Common.{◌≡◌, ℕ, ◌≤◌, ℤ, pos, neg_ℤ, ◌+ℤ◌, ◌*ℤ◌, List, [], ◌∷◌, ◌++◌, refl, sym, ap, ◌∙◌, subst, arith, ints, one-le-pow, zero-*ℤ, one-*ℤ, neg_ℤ-*ℤ, neg_ℤ-+ℤ, *ℤ_comm, +ℤ_assoc, zero-+ℤ, +ℤ-zero, Var, Amount, Whole, Billionths, Factor, Product, Negative, value_of_amount, EquationTerms, less, coefficients_of, IsOver, IsSumOver, alone, IsOver-negated, IsOver-ratio, IsOver-times, ◌equals◌, ◌at_most◌, sum_over, scale_of, factor_scale, is_covered, is_made_of, is_times, products_away, for_each}
 use Rattle.std.specs.Prelude.{◌^◌, ◌<ℤ◌}
-use Rattle.std.proofs.lemmas.Int.{ints}
-use Rattle.std.proofs.Math.Nat.{one-le-pow}
-use Rattle.exact_num.proofs.Ring.{zero-*ℤ, one-*ℤ, neg_ℤ-*ℤ, neg_ℤ-+ℤ, *ℤ_comm, +ℤ_assoc, zero-+ℤ, +ℤ-zero}
-use Rattle.row_core.specs.declared.Var.{Var}
-use Rattle.row_core.specs.Amounts.{Amount, Whole, Billionths, Factor, Product, Negative, value_of_amount}
-use Rattle.row_core.specs.EquationTerms.{EquationTerms, less, coefficients_of}
-use Rattle.row_core.specs.Values.{IsOver, IsSumOver, alone}
-use Rattle.row_core.proofs.SumLaws.{IsOver-negated, IsOver-ratio, IsOver-times}
-use Rattle.named_equations.specs.Notation.{◌equals◌, ◌at_most◌, sum_over, scale_of, factor_scale}
 use Rattle.named_equations.proofs.TermMeaning.{MeansStatement, sum_over-negated, sum_over-zero, over-one, over-minus_one, over-zero, over-data, sum-none, sum-term, sum-each, first_positive, alone-self}
-use Rattle.named_equations.specs.TermShapes.{is_covered, is_made_of, is_times, products_away, for_each}
 
 -- ---- numbers over a scale
 

@@ -1,13 +1,6 @@
 -- Two regions that trade: which way a route goes, and which of two exchanges defines.
-use Rattle.std.proofs.Common.{◌≡◌, ◌+◌, ◌*◌, ℤ, pos, negsuc, true, List, [], ◌∷◌, map, refl}
+use Rattle.named_equations.proofs.Common.{◌≡◌, ◌+◌, ◌*◌, ℤ, pos, negsuc, true, List, [], ◌∷◌, map, refl, Data, Given, Default, discounted, capital_factor, root_from, half_year_root, operating_factor, salvage_fraction, Var, instances_of, name_at, variable_of, at_rrrlfy, cost, trade}
 use Rattle.std.specs.Prelude.{Some, None, codes}
-use Rattle.model_sets.specs.Data.{Data, Given, Default}
-use Rattle.discount_factors.specs.Factors.{discounted, capital_factor, root_from, half_year_root, operating_factor, salvage_fraction}
-use Rattle.row_core.specs.declared.Var.{Var}
-use Rattle.named_equations.specs.Instances.{instances_of, name_at, variable_of}
-use Rattle.named_equations.specs.Indices.{at_rrrlfy}
-use Rattle.named_equations.specs.Plans.{cost}
-use Rattle.named_equations.specs.Variables.{trade}
 use Rattle.named_equations.proofs.BaseFile.{sets_of, data_of, default, given, whole}
 use Rattle.named_equations.proofs.Tables.{tabled, meets_all, first_broken}
 

@@ -1,17 +1,8 @@
 -- Two members of each set, with a value of its own at each index, so that subscripts that change places, a lost factor or a wrong range of a sum
 -- would show: every equation has an instance. The plan and the figures were worked out by a program of another kind, in exact fractions, from the
 -- published statements.
-use Rattle.std.proofs.Common.{◌≡◌, ℕ, ◌+◌, ◌-◌, ◌*◌, ◌^◌, ℤ, pos, negsuc, ◌*ℤ◌, Bool, true, false, List, [], ◌∷◌, length, map, refl}
-use Rattle.std.specs.Prelude.{codes, fold, slice_index_or}
-use Rattle.std.specs.List.{flat_map, list_all, enumerate_from, zip}
-use Rattle.model_sets.specs.Data.{Data, Given, indices_of}
-use Rattle.model_sets.specs.Members.{SetLists}
-use Rattle.row_core.specs.declared.Index.{Index}
-use Rattle.row_core.specs.declared.Var.{Var}
+use Rattle.named_equations.proofs.Common.{◌≡◌, ℕ, ◌+◌, ◌-◌, ◌*◌, ◌^◌, ℤ, pos, negsuc, ◌*ℤ◌, Bool, true, false, List, [], ◌∷◌, length, map, refl, codes, fold, slice_index_or, flat_map, list_all, enumerate_from, zip, Data, Given, indices_of, SetLists, Index, Var, discounted, capital_factor, root_from, half_year_root, operating_factor, salvage_fraction, instances_of, meets, cost}
 use Rattle.row_core.specs.Subscripts.{r, rr, l, t, f, e, m, y}
-use Rattle.discount_factors.specs.Factors.{discounted, capital_factor, root_from, half_year_root, operating_factor, salvage_fraction}
-use Rattle.named_equations.specs.Instances.{instances_of}
-use Rattle.named_equations.specs.Plans.{meets, cost}
 use Rattle.named_equations.proofs.BaseFile.{given, sets_of}
 
 -- ---- data

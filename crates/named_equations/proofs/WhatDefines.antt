@@ -1,10 +1,7 @@
 -- Which equations define the variables of each kind, with the names of both: the table that comes of the table of equations. The variables of a kind
 -- exist where one of these has an instance, and those of the first three kinds at every index.
-use Rattle.std.proofs.Common.{◌≡◌, ℕ, List, [], ◌∷◌, map, filter, refl}
-use Rattle.std.specs.Prelude.{codes}
+use Rattle.named_equations.proofs.Common.{◌≡◌, ℕ, List, [], ◌∷◌, map, filter, refl, codes, word_of_kind, definers, exists_everywhere, kind_numbers}
 use Rattle.row_core.specs.Equations.{word_of_equation}
-use Rattle.row_core.specs.Kinds.{word_of_kind}
-use Rattle.named_equations.specs.Existence.{definers, exists_everywhere, kind_numbers}
 
 -- the name of a kind, and the names of the equations that define its variables
 abbrev defined_by : ℕ → List ℕ × List (List ℕ)

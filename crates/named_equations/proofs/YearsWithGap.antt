@@ -1,15 +1,5 @@
 -- The base example over the years 2020, 2021 and 2025, with lives, rates and methods of several kinds: which years count, salvage values, and whole plans.
-use Rattle.std.proofs.Common.{◌≡◌, ℕ, ◌^◌, ℤ, pos, true, List, [], ◌∷◌, map, refl}
-use Rattle.std.specs.Prelude.{Some, codes, if◌then◌else◌, nat_eq, ◌&&◌}
-use Rattle.model_sets.specs.Data.{Data, Default}
-use Rattle.discount_factors.specs.Factors.{discounted, capital_factor, root_from, half_year_root, operating_factor, salvage_fraction}
-use Rattle.row_core.specs.declared.Var.{Var}
-use Rattle.named_equations.specs.Capacity.{years_counting}
-use Rattle.named_equations.specs.Instances.{instances_of, name_at}
-use Rattle.named_equations.specs.Plans.{cost}
-use Rattle.named_equations.specs.Positions.{all_years, years_since_first, years_left, years_in_all}
-use Rattle.named_equations.specs.Salvage.{has_sv1, has_sv2, has_sv3}
-use Rattle.named_equations.specs.WrittenFactors.{capital_factor_of, operating_factor_of, salvage_fraction_of}
+use Rattle.named_equations.proofs.Common.{◌≡◌, ℕ, ◌^◌, ℤ, pos, true, List, [], ◌∷◌, map, refl, Some, codes, if◌then◌else◌, nat_eq, ◌&&◌, Data, Default, discounted, capital_factor, root_from, half_year_root, operating_factor, salvage_fraction, Var, years_counting, instances_of, name_at, cost, all_years, years_since_first, years_left, years_in_all, has_sv1, has_sv2, has_sv3, capital_factor_of, operating_factor_of, salvage_fraction_of}
 use Rattle.named_equations.proofs.BaseFile.{base_sets, data_of, default, whole}
 use Rattle.named_equations.proofs.Tables.{tabled, meets_all, first_broken}
 
