@@ -1,7 +1,7 @@
 -- What makes a plan feasible: a positive common denominator, every equation, and the sign of every variable that isn't free. Plans that are so, and
 -- one near miss of each.
 use Rattle.named_equations.proofs.Common.{◌≡◌, ℕ, ◌<◌, inl, inr, ℤ, pos, negsuc, Bool, true, false, ◌||◌, List, [], ◌∷◌, refl, sym, ap, ◌∙◌, arith, true≢false, ◌≤ℤ◌, ◌&&◌, codes, int_le, if◌then◌else◌, nat_eq, list_all, and_parts, ints, OPERATIONAL_LIFE, RESIDUAL_CAPACITY, Data, discounted, capital_factor, root_from, half_year_root, operating_factor, salvage_fraction, RowName, Var, RATE_OF_ACTIVITY, kind_is_free, all_variables, instances, Feasible, MeetsEach, meets, says, new_capacity, Has}
-use Rattle.row_core.proofs.StatementLaws.{holds_complete, holds_sound}
+use Rattle.row_core.proofs.StatementLaws.{holds_sound, stands_complete}
 use Rattle.named_equations.proofs.BaseFile.{base, base_sets, data_of, default, whole}
 use Rattle.named_equations.proofs.BasePlan.{best, best_meets_all}
 use Rattle.named_equations.proofs.InstanceTests.{Has-variables}
@@ -19,7 +19,8 @@ met_each places d q x (name ∷ names) passes =
 each_met : (places : ℕ) (d : Data) (q : ℕ) (x : Var → ℤ) (names : List RowName) → MeetsEach places d q x names → list_all (meets places d q x) names ≡ true
 each_met places d q x [] met = refl
 each_met places d q x (name ∷ names) met =
-    ap (λ b. b && list_all (meets places d q x) names) (holds_complete (says places d q x name) met.0) ∙ each_met places d q x names met.1
+    let s = says places d q x name in
+    ap (λ b. b && list_all (meets places d q x) names) (stands_complete s.sign s.left s.right met.0) ∙ each_met places d q x names met.1
 
 -- the variable is free, or at least 0
 abbrev keeps_sign : (Var → ℤ) → Var → Bool

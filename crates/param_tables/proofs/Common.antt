@@ -16,7 +16,7 @@ pub use Rattle.model_sets.specs.declared.param_numbers.TheConstants.{CONVERSIONL
 pub use Rattle.model_sets.specs.declared.params.Range.{Range}
 pub use Rattle.model_sets.specs.declared.params.Range.TheVariants.{AboveZero, Any, AtLeastZero, Lifetime, MinusOneOrAtLeastZero, OneOrTwo, ZeroOnly, ZeroToOne}
 pub use Rattle.param_tables.specs.BlockData.{data_of, data_told, given_of, givens_of, has_second, members_told, set_lists, stated_default}
-pub use Rattle.param_tables.specs.Built.{AreComplete, AreGivenAlike, Built, IsValueIn, is_given}
+pub use Rattle.param_tables.specs.Built.{AreComplete, Built, IsValueIn, is_given}
 pub use Rattle.param_tables.specs.Canonical.{canonical, given_value, values_for, with_given, with_value_at}
 unfoldable pub use Rattle.param_tables.specs.Canonical.{defaults_in_order, given_in_order}
 pub use Rattle.param_tables.specs.Changed.{AreDataWith}
