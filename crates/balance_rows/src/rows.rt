@@ -19,7 +19,8 @@ use crate::timeslices::{eba7, eba8, eba9, eba10, eba11};
 use crate::years::{ebb1, ebb2, ebb3, ebb4};
 use equation_parts::index;
 use equation_parts::instances::row_where;
-use equation_parts::ratios::{produces, produces_in_mode, uses, uses_in_mode};
+use equation_parts::ratios::{is_not_zero, is_not_zero_in_some_mode};
+use model_sets::param_numbers::{INPUT_ACTIVITY_RATIO, OUTPUT_ACTIVITY_RATIO};
 use param_tables::ModelData;
 use row_core::equation_numbers::{
     ACC1, ACC2, EBA1, EBA2, EBA3, EBA4, EBA5, EBA6, EBA7, EBA8, EBA9, EBA10, EBA11, EBB1, EBB2,
@@ -58,12 +59,10 @@ fn stands(model: &ModelData, eq: u8, at: Index) -> bool
 {
     let index!(region r, tech t, fuel f, mode m, year y) = at;
     match eq {
-        EBA1 => produces_in_mode(model, r, t, f, m, y),
-        EBA2 => produces(model, r, t, f, y),
-        EBA4 => uses_in_mode(model, r, t, f, m, y),
-        EBA5 => uses(model, r, t, f, y),
-        ACC1 => produces(model, r, t, f, y),
-        ACC2 => uses(model, r, t, f, y),
+        EBA1 => is_not_zero(model, OUTPUT_ACTIVITY_RATIO, &[r, t, f, m, y]),
+        EBA4 => is_not_zero(model, INPUT_ACTIVITY_RATIO, &[r, t, f, m, y]),
+        EBA2 | ACC1 => is_not_zero_in_some_mode(model, OUTPUT_ACTIVITY_RATIO, r, t, f, y),
+        EBA5 | ACC2 => is_not_zero_in_some_mode(model, INPUT_ACTIVITY_RATIO, r, t, f, y),
         _ => true,
     }
 }

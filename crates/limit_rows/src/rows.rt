@@ -15,7 +15,8 @@ use crate::renewable_target::{re1, re2, re3, re4, re5};
 use crate::reserve_margin::{rm1, rm2, rm3};
 use equation_parts::index;
 use equation_parts::instances::row_where;
-use equation_parts::ratios::{produces, uses};
+use equation_parts::ratios::is_not_zero_in_some_mode;
+use model_sets::param_numbers::{INPUT_ACTIVITY_RATIO, OUTPUT_ACTIVITY_RATIO};
 use param_tables::ModelData;
 use row_core::equation_numbers::{AAC1, RE1, RE2, RE3, RE4, RE5, RM1, RM2, RM3, TAC1, TAC3, TCC1};
 use row_core::{Index, Row, RowName, Stopped};
@@ -55,8 +56,8 @@ fn stands(model: &ModelData, eq: u8, at: Index) -> bool
         AAC1 => true,
         TAC1 => true,
         TCC1..=TAC3 => is_set(model, eq, at),
-        RE1 => produces(model, r, t, f, y),
-        RE5 => uses(model, r, t, f, y),
+        RE1 => is_not_zero_in_some_mode(model, OUTPUT_ACTIVITY_RATIO, r, t, f, y),
+        RE5 => is_not_zero_in_some_mode(model, INPUT_ACTIVITY_RATIO, r, t, f, y),
         _ => true,
     }
 }
