@@ -17,7 +17,6 @@ use crate::salvage::{sv1, sv2, sv3, sv4};
 use crate::total_cost::{acc4, tdc1, tdc2};
 use discount_factors::Factors;
 use equation_parts::index;
-use equation_parts::instances::row_where;
 use param_tables::ModelData;
 use row_core::equation_numbers::{CC1, CC2, OC1, OC2, OC3, OC4, SV1, SV2, SV3, SV4, TDC1, TDC2};
 use row_core::{Index, Row, RowName, Stopped};
@@ -53,11 +52,14 @@ pub fn rows_of(
     ensures fits { IfOk result (λ found. IfSome found (λ row. all_fit (equation_formed (terms_at (places_of factors.now) model.now.facts (name_at eq at))) ≡ true)) }
     ensures stopped { IfErr result (IsStop (Place.Row (name_at eq at)) (not (stands_at model.now.facts eq at) || all_fit (equation_formed (terms_at (places_of factors.now) model.now.facts (name_at eq at))))) }
 {
+    if !stands(model, eq, at) {
+        return Ok(None);
+    }
     let name = RowName { eq, index: at };
-    row_where(
-        stands(model, eq, at),
-        || row_of(alloc, model, factors, name),
-    )
+    match row_of(alloc, model, factors, name) {
+        Ok(row) => Ok(Some(row)),
+        Err(stopped) => Err(stopped),
+    }
 }
 
 /// Whether the equation has an instance at the index.

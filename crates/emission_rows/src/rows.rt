@@ -14,7 +14,6 @@ use crate::regions::{e6, e7, e8, e9, has_e8, has_e9};
 use crate::technologies::{e1, e2, e3, e4, e5};
 use discount_factors::Factors;
 use equation_parts::index;
-use equation_parts::instances::row_where;
 use equation_parts::ratios::is_not_zero;
 use model_sets::param_numbers::EMISSION_ACTIVITY_RATIO;
 use param_tables::ModelData;
@@ -50,11 +49,14 @@ pub fn rows_of(
     ensures fits { IfOk result (λ found. IfSome found (λ row. all_fit (equation_formed (terms_at (places_of factors.now) model.now.facts (name_at eq at))) ≡ true)) }
     ensures stopped { IfErr result (IsStop (Place.Row (name_at eq at)) (not (stands_at model.now.facts eq at) || all_fit (equation_formed (terms_at (places_of factors.now) model.now.facts (name_at eq at))))) }
 {
+    if !stands(model, eq, at) {
+        return Ok(None);
+    }
     let name = RowName { eq, index: at };
-    row_where(
-        stands(model, eq, at),
-        || row_of(alloc, model, factors, name),
-    )
+    match row_of(alloc, model, factors, name) {
+        Ok(row) => Ok(Some(row)),
+        Err(stopped) => Err(stopped),
+    }
 }
 
 /// Whether the equation has an instance at the index.

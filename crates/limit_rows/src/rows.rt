@@ -14,7 +14,6 @@ use crate::limits::{is_set, limit_row};
 use crate::renewable_target::{re1, re2, re3, re4, re5};
 use crate::reserve_margin::{rm1, rm2, rm3};
 use equation_parts::index;
-use equation_parts::instances::row_where;
 use equation_parts::ratios::is_not_zero_in_some_mode;
 use model_sets::param_numbers::{INPUT_ACTIVITY_RATIO, OUTPUT_ACTIVITY_RATIO};
 use param_tables::ModelData;
@@ -41,8 +40,14 @@ pub fn rows_of(alloc: Global, model: &ModelData, eq: u8, at: Index) -> Result<Op
     ensures fits { IfOk result (λ found. IfSome found (λ row. all_fit (equation_formed (terms_at model.now.facts (name_at eq at))) ≡ true)) }
     ensures stopped { IfErr result (IsStop (Place.Row (name_at eq at)) (not (stands_at model.now.facts eq at) || all_fit (equation_formed (terms_at model.now.facts (name_at eq at))))) }
 {
+    if !stands(model, eq, at) {
+        return Ok(None);
+    }
     let name = RowName { eq, index: at };
-    row_where(stands(model, eq, at), || row_of(alloc, model, name))
+    match row_of(alloc, model, name) {
+        Ok(row) => Ok(Some(row)),
+        Err(stopped) => Err(stopped),
+    }
 }
 
 /// Whether the equation has an instance at the index.
