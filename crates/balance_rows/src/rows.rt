@@ -15,8 +15,8 @@ use crate::accounting::{acc1, acc2, acc3};
 use crate::demand::eq_specified_demand;
 use crate::flows::Flow::{Made, Taken};
 use crate::production::{all_flow, mode_flow, technology_flow};
-use crate::timeslices::{eba7, eba8, eba9, eba10, eba11};
-use crate::years::{ebb1, ebb2, ebb3, ebb4};
+use crate::timeslices::{eba10, eba11, fuel_in_slice};
+use crate::years::{ebb3, ebb4, fuel_in_year};
 use equation_parts::index;
 use equation_parts::ratios::{is_not_zero, is_not_zero_in_some_mode};
 use model_sets::param_numbers::{INPUT_ACTIVITY_RATIO, OUTPUT_ACTIVITY_RATIO};
@@ -24,6 +24,10 @@ use param_tables::ModelData;
 use row_core::equation_numbers::{
     ACC1, ACC2, EBA1, EBA2, EBA3, EBA4, EBA5, EBA6, EBA7, EBA8, EBA9, EBA10, EBA11, EBB1, EBB2,
     EBB3, EBB4, EQ_SPECIFIED_DEMAND,
+};
+use row_core::kind_numbers::{
+    DEMAND, PRODUCTION, PRODUCTION_ANNUAL, RATE_OF_DEMAND, RATE_OF_PRODUCTION, RATE_OF_USE, USE,
+    USE_ANNUAL,
 };
 use row_core::{Index, Row, RowName, Stopped};
 use std::alloc::Global;
@@ -87,13 +91,13 @@ fn row_of(alloc: Global, model: &ModelData, name: RowName) -> Result<Row, Stoppe
         EBA4 => mode_flow(alloc, model, name, Taken),
         EBA5 => technology_flow(alloc, model, name, Taken),
         EBA6 => all_flow(alloc, model, name, Taken),
-        EBA7 => eba7(alloc, model, name),
-        EBA8 => eba8(alloc, model, name),
-        EBA9 => eba9(alloc, model, name),
+        EBA7 => fuel_in_slice(alloc, model, name, PRODUCTION, RATE_OF_PRODUCTION),
+        EBA8 => fuel_in_slice(alloc, model, name, USE, RATE_OF_USE),
+        EBA9 => fuel_in_slice(alloc, model, name, DEMAND, RATE_OF_DEMAND),
         EBA10 => eba10(alloc, model, name),
         EBA11 => eba11(alloc, model, name),
-        EBB1 => ebb1(alloc, model, name),
-        EBB2 => ebb2(alloc, model, name),
+        EBB1 => fuel_in_year(alloc, model, name, PRODUCTION_ANNUAL, PRODUCTION),
+        EBB2 => fuel_in_year(alloc, model, name, USE_ANNUAL, USE),
         EBB3 => ebb3(alloc, model, name),
         EBB4 => ebb4(alloc, model, name),
         ACC1 => acc1(alloc, model, name),
