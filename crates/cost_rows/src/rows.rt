@@ -10,10 +10,10 @@ ghost use Rattle.named_equations.specs.RegionFactors.{AreRegionFactors, places_o
 ghost use Rattle.named_equations.specs.RowMeaning.{IsNamedRow};
 ghost use Rattle.cost_rows.specs.Rows.{IsCostEquation, terms_at};
 
-use crate::depreciation::{has_sv1, has_sv2, has_sv3};
+use crate::depreciation::{SINKING_FUND, STRAIGHT_LINE, has_sv1, has_sv2, has_sv3};
 use crate::investment::{cc1, cc2};
 use crate::operating_cost::{oc1, oc2, oc3, oc4};
-use crate::salvage::{sv1, sv2, sv3, sv4};
+use crate::salvage::{salvage_by_method, sv3, sv4};
 use crate::total_cost::{acc4, tdc1, tdc2};
 use discount_factors::Factors;
 use equation_parts::index;
@@ -93,8 +93,8 @@ fn row_of(
     match name.eq {
         CC1 => cc1(alloc, model, factors, name),
         CC2 => cc2(alloc, model, factors, name),
-        SV1 => sv1(alloc, model, factors, name),
-        SV2 => sv2(alloc, model, factors, name),
+        SV1 => salvage_by_method(alloc, model, factors, name, SINKING_FUND),
+        SV2 => salvage_by_method(alloc, model, factors, name, STRAIGHT_LINE),
         SV3 => sv3(alloc, model, name),
         SV4 => sv4(alloc, model, factors, name),
         OC1 => oc1(alloc, model, name),
