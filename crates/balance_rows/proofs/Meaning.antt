@@ -173,72 +173,62 @@ cover_year-means places d i =
 abbrev pub IsNamed : ℕ → Data → Index → ℕ → Type 0
 IsNamed places d i n = IsNamedEquation places d (name_at n i) (terms_at d (name_at n i))
 
--- that its terms mean it
-abbrev pub Means : ℕ → Data → Index → ℕ → Type 0
-Means places d i n = MeansStatement (terms_at d (name_at n i)) (λ q x. says places d q x (name_at n i))
-
-definition : (places : ℕ) (d : Data) (i : Index) (n : ℕ) (v : Var) (m : Means places d i n) → variable_of (name_at n i) ≡ Some v → pos 0 <ℤ m.sum (alone v) → IsNamed places d i n
-definition places d i n v m is h = definition_is places d (name_at n i) (terms_at d (name_at n i)) v m is h
-
-inequality : (places : ℕ) (d : Data) (i : Index) (n : ℕ) → Means places d i n → variable_of (name_at n i) ≡ None → IsNamed places d i n
-inequality places d i n m none = inequality_is places d (name_at n i) (terms_at d (name_at n i)) m none
-
 eba1-named : (places : ℕ) (d : Data) (i : Index) → IsNamed places d i EBA1
-eba1-named places d i = definition places d i EBA1 _ (scaled_other _ _ _) refl (scaled_other-defines _ _ _ refl)
+eba1-named places d i = definition_is places d (name_at EBA1 i) _ _ (scaled_other _ _ _) refl (scaled_other-defines _ _ _ refl)
 
 eba2-named : (places : ℕ) (d : Data) (i : Index) → IsNamed places d i EBA2
-eba2-named places d i = definition places d i EBA2 _ (sum_of_others _ _ _) refl (sum_of_others-defines _ _ _ (λ m. refl))
+eba2-named places d i = definition_is places d (name_at EBA2 i) _ _ (sum_of_others _ _ _) refl (sum_of_others-defines _ _ _ (λ m. refl))
 
 eba3-named : (places : ℕ) (d : Data) (i : Index) → IsNamed places d i EBA3
-eba3-named places d i = definition places d i EBA3 _ (sum_of_others _ _ _) refl (sum_of_others-defines _ _ _ (λ t. refl))
+eba3-named places d i = definition_is places d (name_at EBA3 i) _ _ (sum_of_others _ _ _) refl (sum_of_others-defines _ _ _ (λ t. refl))
 
 eba4-named : (places : ℕ) (d : Data) (i : Index) → IsNamed places d i EBA4
-eba4-named places d i = definition places d i EBA4 _ (scaled_other _ _ _) refl (scaled_other-defines _ _ _ refl)
+eba4-named places d i = definition_is places d (name_at EBA4 i) _ _ (scaled_other _ _ _) refl (scaled_other-defines _ _ _ refl)
 
 eba5-named : (places : ℕ) (d : Data) (i : Index) → IsNamed places d i EBA5
-eba5-named places d i = definition places d i EBA5 _ (sum_of_others _ _ _) refl (sum_of_others-defines _ _ _ (λ m. refl))
+eba5-named places d i = definition_is places d (name_at EBA5 i) _ _ (sum_of_others _ _ _) refl (sum_of_others-defines _ _ _ (λ m. refl))
 
 eba6-named : (places : ℕ) (d : Data) (i : Index) → IsNamed places d i EBA6
-eba6-named places d i = definition places d i EBA6 _ (sum_of_others _ _ _) refl (sum_of_others-defines _ _ _ (λ t. refl))
+eba6-named places d i = definition_is places d (name_at EBA6 i) _ _ (sum_of_others _ _ _) refl (sum_of_others-defines _ _ _ (λ t. refl))
 
 eba7-named : (places : ℕ) (d : Data) (i : Index) → IsNamed places d i EBA7
-eba7-named places d i = definition places d i EBA7 _ (scaled_other _ _ _) refl (scaled_other-defines _ _ _ refl)
+eba7-named places d i = definition_is places d (name_at EBA7 i) _ _ (scaled_other _ _ _) refl (scaled_other-defines _ _ _ refl)
 
 eba8-named : (places : ℕ) (d : Data) (i : Index) → IsNamed places d i EBA8
-eba8-named places d i = definition places d i EBA8 _ (scaled_other _ _ _) refl (scaled_other-defines _ _ _ refl)
+eba8-named places d i = definition_is places d (name_at EBA8 i) _ _ (scaled_other _ _ _) refl (scaled_other-defines _ _ _ refl)
 
 eba9-named : (places : ℕ) (d : Data) (i : Index) → IsNamed places d i EBA9
-eba9-named places d i = definition places d i EBA9 _ (scaled_other _ _ _) refl (scaled_other-defines _ _ _ refl)
+eba9-named places d i = definition_is places d (name_at EBA9 i) _ _ (scaled_other _ _ _) refl (scaled_other-defines _ _ _ refl)
 
 ebb1-named : (places : ℕ) (d : Data) (i : Index) → IsNamed places d i EBB1
-ebb1-named places d i = definition places d i EBB1 _ (sum_of_others _ _ _) refl (sum_of_others-defines _ _ _ (λ l. refl))
+ebb1-named places d i = definition_is places d (name_at EBB1 i) _ _ (sum_of_others _ _ _) refl (sum_of_others-defines _ _ _ (λ l. refl))
 
 ebb2-named : (places : ℕ) (d : Data) (i : Index) → IsNamed places d i EBB2
-ebb2-named places d i = definition places d i EBB2 _ (sum_of_others _ _ _) refl (sum_of_others-defines _ _ _ (λ l. refl))
+ebb2-named places d i = definition_is places d (name_at EBB2 i) _ _ (sum_of_others _ _ _) refl (sum_of_others-defines _ _ _ (λ l. refl))
 
 ebb3-named : (places : ℕ) (d : Data) (i : Index) → IsNamed places d i EBB3
-ebb3-named places d i = definition places d i EBB3 _ (sum_of_others _ _ _) refl (sum_of_others-defines _ _ _ (λ l. refl))
+ebb3-named places d i = definition_is places d (name_at EBB3 i) _ _ (sum_of_others _ _ _) refl (sum_of_others-defines _ _ _ (λ l. refl))
 
 acc1-named : (places : ℕ) (d : Data) (i : Index) → IsNamed places d i ACC1
-acc1-named places d i = definition places d i ACC1 _ (scaled_other _ _ _) refl (scaled_other-defines _ _ _ refl)
+acc1-named places d i = definition_is places d (name_at ACC1 i) _ _ (scaled_other _ _ _) refl (scaled_other-defines _ _ _ refl)
 
 acc2-named : (places : ℕ) (d : Data) (i : Index) → IsNamed places d i ACC2
-acc2-named places d i = definition places d i ACC2 _ (scaled_other _ _ _) refl (scaled_other-defines _ _ _ refl)
+acc2-named places d i = definition_is places d (name_at ACC2 i) _ _ (scaled_other _ _ _) refl (scaled_other-defines _ _ _ refl)
 
 acc3-named : (places : ℕ) (d : Data) (i : Index) → IsNamed places d i ACC3
-acc3-named places d i = definition places d i ACC3 _ (weighted_sum _ _ _ _) refl (weighted_sum-defines _ _ _ _ (λ l. refl))
+acc3-named places d i = definition_is places d (name_at ACC3 i) _ _ (weighted_sum _ _ _ _) refl (weighted_sum-defines _ _ _ _ (λ l. refl))
 
 demand-named : (places : ℕ) (d : Data) (i : Index) → pos 0 <ℤ year_split d i.slice i.year → IsNamed places d i EQ_SPECIFIED_DEMAND
-demand-named places d i p = definition places d i EQ_SPECIFIED_DEMAND (rate_of_demand i.region i.slice i.fuel i.year) (demand-means places d i) refl (demand-defines places d i p)
+demand-named places d i p = definition_is places d (name_at EQ_SPECIFIED_DEMAND i) _ (rate_of_demand i.region i.slice i.fuel i.year) (demand-means places d i) refl (demand-defines places d i p)
 
 exchange-named : (places : ℕ) (d : Data) (i : Index) → IsNamed places d i EBA10
 exchange-named places d i = record { means = exchange-means places d i; defines = exchange-defines places d i }
 
 cover-named : (places : ℕ) (d : Data) (i : Index) → IsNamed places d i EBA11
-cover-named places d i = inequality places d i EBA11 (cover-means places d i) refl
+cover-named places d i = inequality_is places d (name_at EBA11 i) _ (cover-means places d i) refl
 
 cover_year-named : (places : ℕ) (d : Data) (i : Index) → IsNamed places d i EBB4
-cover_year-named places d i = inequality places d i EBB4 (cover_year-means places d i) refl
+cover_year-named places d i = inequality_is places d (name_at EBB4 i) _ (cover_year-means places d i) refl
 
 from_seven : (places : ℕ) (d : Data) (i : Index) → EachFrom (IsNamed places d i) EBA1 18
 from_seven places d i =

@@ -8,7 +8,8 @@ use Rattle.row_core.specs.EquationTerms.{EquationTerms, once, less, each, nothin
 use Rattle.named_equations.specs.Parameters.{year_split, specified_annual_demand, specified_demand_profile, trade_route, accumulated_annual_demand}
 use Rattle.named_equations.specs.Positions.{regions, timeslices}
 use Rattle.named_equations.specs.TermShapes.{is_made_of, is_times, sum_away, products_away}
-use Rattle.named_equations.specs.Variables.{rate_of_activity, trade, rate_of_demand, rate_of_production_by_technology, rate_of_production, rate_of_use_by_technology, rate_of_use, production, use_of_fuel, demand, production_annual, use_annual, trade_annual, production_by_technology, use_by_technology, total_annual_technology_activity_by_mode}
+use Rattle.named_equations.specs.Indices.{at_rfy, at_rlfy}
+use Rattle.named_equations.specs.Variables.{variable, rate_of_activity, trade, rate_of_demand, rate_of_production_by_technology, rate_of_use_by_technology, production_by_technology, use_by_technology, production, use_of_fuel, demand, production_annual, use_annual, trade_annual, total_annual_technology_activity_by_mode}
 use Rattle.balance_rows.specs.declared.flows.Flow.{Flow}
 use Rattle.balance_rows.specs.Flows.{ratio_of, value_of_ratio, rate_in_mode, rate_of_technology, rate_of_all}
 
@@ -40,17 +41,9 @@ all_flow flow d r l f y =
 
 -- ---- each timeslice
 
--- EBa7[r,l,f,y]: Production = RateOfProduction * YearSplit
-abbrev pub eba7 : Data → ℕ → ℕ → ℕ → ℕ → EquationTerms
-eba7 d r l f y = is_times (production r l f y) (rate_of_production r l f y) (Billionths (year_split d l y))
-
--- EBa8[r,l,f,y]: Use = RateOfUse * YearSplit
-abbrev pub eba8 : Data → ℕ → ℕ → ℕ → ℕ → EquationTerms
-eba8 d r l f y = is_times (use_of_fuel r l f y) (rate_of_use r l f y) (Billionths (year_split d l y))
-
--- EBa9[r,l,f,y]: Demand = RateOfDemand * YearSplit
-abbrev pub eba9 : Data → ℕ → ℕ → ℕ → ℕ → EquationTerms
-eba9 d r l f y = is_times (demand r l f y) (rate_of_demand r l f y) (Billionths (year_split d l y))
+-- EBa7, EBa8 and EBa9[r,l,f,y]: Production, Use or Demand = its rate * YearSplit
+abbrev pub fuel_in_slice : ℕ → ℕ → Data → ℕ → ℕ → ℕ → ℕ → EquationTerms
+fuel_in_slice kind rate d r l f y = is_times (variable kind (at_rlfy r l f y)) (variable rate (at_rlfy r l f y)) (Billionths (year_split d l y))
 
 -- EBa10[r,rr,l,f,y]: Trade[r,rr] + Trade[rr,r] = 0
 abbrev pub eba10 : Data → ℕ → ℕ → ℕ → ℕ → ℕ → EquationTerms
@@ -68,13 +61,9 @@ eba11 d r l f y = record {
 
 -- ---- each year
 
--- EBb1[r,f,y]: ProductionAnnual is the sum of Production over the timeslices
-abbrev pub ebb1 : Data → ℕ → ℕ → ℕ → EquationTerms
-ebb1 d r f y = is_made_of (production_annual r f y) (sum_away (timeslices d) (λ l. production r l f y))
-
--- EBb2[r,f,y]: UseAnnual is the sum of Use over the timeslices
-abbrev pub ebb2 : Data → ℕ → ℕ → ℕ → EquationTerms
-ebb2 d r f y = is_made_of (use_annual r f y) (sum_away (timeslices d) (λ l. use_of_fuel r l f y))
+-- EBb1 and EBb2[r,f,y]: ProductionAnnual or UseAnnual is the sum of Production or Use over the timeslices
+abbrev pub fuel_in_year : ℕ → ℕ → Data → ℕ → ℕ → ℕ → EquationTerms
+fuel_in_year kind part d r f y = is_made_of (variable kind (at_rfy r f y)) (sum_away (timeslices d) (λ l. variable part (at_rlfy r l f y)))
 
 -- EBb3[r,rr,f,y]: TradeAnnual is the sum of Trade over the timeslices
 abbrev pub ebb3 : Data → ℕ → ℕ → ℕ → ℕ → EquationTerms

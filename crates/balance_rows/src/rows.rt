@@ -15,15 +15,19 @@ use crate::accounting::{acc1, acc2, acc3};
 use crate::demand::eq_specified_demand;
 use crate::flows::Flow::{Made, Taken};
 use crate::production::{all_flow, mode_flow, technology_flow};
-use crate::timeslices::{eba7, eba8, eba9, eba10, eba11};
-use crate::years::{ebb1, ebb2, ebb3, ebb4};
+use crate::timeslices::{eba10, eba11, fuel_in_slice};
+use crate::years::{ebb3, ebb4, fuel_in_year};
 use equation_parts::index;
-use equation_parts::instances::row_where;
-use equation_parts::ratios::{produces, produces_in_mode, uses, uses_in_mode};
+use equation_parts::ratios::{is_not_zero, is_not_zero_in_some_mode};
+use model_sets::param_numbers::{INPUT_ACTIVITY_RATIO, OUTPUT_ACTIVITY_RATIO};
 use param_tables::ModelData;
 use row_core::equation_numbers::{
     ACC1, ACC2, EBA1, EBA2, EBA3, EBA4, EBA5, EBA6, EBA7, EBA8, EBA9, EBA10, EBA11, EBB1, EBB2,
     EBB3, EBB4, EQ_SPECIFIED_DEMAND,
+};
+use row_core::kind_numbers::{
+    DEMAND, PRODUCTION, PRODUCTION_ANNUAL, RATE_OF_DEMAND, RATE_OF_PRODUCTION, RATE_OF_USE, USE,
+    USE_ANNUAL,
 };
 use row_core::{Index, Row, RowName, Stopped};
 use std::alloc::Global;
@@ -46,8 +50,14 @@ pub fn rows_of(alloc: Global, model: &ModelData, eq: u8, at: Index) -> Result<Op
     ensures fits { IfOk result (λ found. IfSome found (λ row. all_fit (equation_formed (terms_at model.now.facts (name_at eq at))) ≡ true)) }
     ensures stopped { IfErr result (IsStop (Place.Row (name_at eq at)) (not (stands_at model.now.facts eq at) || all_fit (equation_formed (terms_at model.now.facts (name_at eq at))))) }
 {
+    if !stands(model, eq, at) {
+        return Ok(None);
+    }
     let name = RowName { eq, index: at };
-    row_where(stands(model, eq, at), || row_of(alloc, model, name))
+    match row_of(alloc, model, name) {
+        Ok(row) => Ok(Some(row)),
+        Err(stopped) => Err(stopped),
+    }
 }
 
 /// Whether the equation has an instance at the index.
@@ -58,12 +68,10 @@ fn stands(model: &ModelData, eq: u8, at: Index) -> bool
 {
     let index!(region r, tech t, fuel f, mode m, year y) = at;
     match eq {
-        EBA1 => produces_in_mode(model, r, t, f, m, y),
-        EBA2 => produces(model, r, t, f, y),
-        EBA4 => uses_in_mode(model, r, t, f, m, y),
-        EBA5 => uses(model, r, t, f, y),
-        ACC1 => produces(model, r, t, f, y),
-        ACC2 => uses(model, r, t, f, y),
+        EBA1 => is_not_zero(model, OUTPUT_ACTIVITY_RATIO, &[r, t, f, m, y]),
+        EBA4 => is_not_zero(model, INPUT_ACTIVITY_RATIO, &[r, t, f, m, y]),
+        EBA2 | ACC1 => is_not_zero_in_some_mode(model, OUTPUT_ACTIVITY_RATIO, r, t, f, y),
+        EBA5 | ACC2 => is_not_zero_in_some_mode(model, INPUT_ACTIVITY_RATIO, r, t, f, y),
         _ => true,
     }
 }
@@ -83,13 +91,13 @@ fn row_of(alloc: Global, model: &ModelData, name: RowName) -> Result<Row, Stoppe
         EBA4 => mode_flow(alloc, model, name, Taken),
         EBA5 => technology_flow(alloc, model, name, Taken),
         EBA6 => all_flow(alloc, model, name, Taken),
-        EBA7 => eba7(alloc, model, name),
-        EBA8 => eba8(alloc, model, name),
-        EBA9 => eba9(alloc, model, name),
+        EBA7 => fuel_in_slice(alloc, model, name, PRODUCTION, RATE_OF_PRODUCTION),
+        EBA8 => fuel_in_slice(alloc, model, name, USE, RATE_OF_USE),
+        EBA9 => fuel_in_slice(alloc, model, name, DEMAND, RATE_OF_DEMAND),
         EBA10 => eba10(alloc, model, name),
         EBA11 => eba11(alloc, model, name),
-        EBB1 => ebb1(alloc, model, name),
-        EBB2 => ebb2(alloc, model, name),
+        EBB1 => fuel_in_year(alloc, model, name, PRODUCTION_ANNUAL, PRODUCTION),
+        EBB2 => fuel_in_year(alloc, model, name, USE_ANNUAL, USE),
         EBB3 => ebb3(alloc, model, name),
         EBB4 => ebb4(alloc, model, name),
         ACC1 => acc1(alloc, model, name),

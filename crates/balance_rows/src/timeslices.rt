@@ -7,7 +7,7 @@ ghost use Rattle.named_equations.specs.Variables.{trade};
 ghost use Rattle.row_core.specs.EquationTerms.{IsWritten};
 ghost use Rattle.named_equations.specs.Indices.{by_rlfy, by_rrrlfy};
 ghost use Rattle.named_equations.specs.Within.{IsRegion, IsSlice, IsFuel, IsYear};
-ghost use Rattle.balance_rows.specs.Balance.{eba7, eba8, eba9, eba10, eba11};
+ghost use Rattle.balance_rows.specs.Balance.{fuel_in_slice, eba10, eba11};
 
 use equation_parts::parameters::{value, year_split};
 use equation_parts::shapes::is_times;
@@ -15,58 +15,30 @@ use equation_parts::{index, variable};
 use model_sets::param_numbers::TRADE_ROUTE;
 use model_sets::set_numbers::REGION;
 use param_tables::ModelData;
-use row_core::kind_numbers::{
-    DEMAND, PRODUCTION, RATE_OF_DEMAND, RATE_OF_PRODUCTION, RATE_OF_USE, TRADE, USE,
-};
+use row_core::kind_numbers::{DEMAND, PRODUCTION, TRADE, USE};
 use row_core::{
     Index, LeftSide, Row, RowName, Sense, Stopped, Var, minus_one, negative, one, zero,
 };
 use std::alloc::Global;
 
-/// EBa7: production is its rate times the part of the year.
-pub(crate) fn eba7(alloc: Global, model: &ModelData, name: RowName) -> Result<Row, Stopped>
+/// EBa7, EBa8 and EBa9: production, use or demand, the variable of this kind, is its rate times the part of the year.
+pub(crate) fn fuel_in_slice(
+    alloc: Global,
+    model: &ModelData,
+    name: RowName,
+    kind: u8,
+    rate: u8,
+) -> Result<Row, Stopped>
     requires slice { IsSlice model.now.facts name.index.slice }
     requires year { IsYear model.now.facts name.index.year }
-    ensures { IsWritten name (by_rlfy (eba7 model.now.facts) name.index) result }
+    ensures { IsWritten name (by_rlfy (fuel_in_slice kind rate model.now.facts) name.index) result }
 {
     let index!(region r, slice l, fuel f, year y) = name.index;
     is_times(
         alloc,
         name,
-        variable!(PRODUCTION; region r, slice l, fuel f, year y),
-        variable!(RATE_OF_PRODUCTION; region r, slice l, fuel f, year y),
-        year_split(model, l, y),
-    )
-}
-
-/// EBa8: use is its rate times the part of the year.
-pub(crate) fn eba8(alloc: Global, model: &ModelData, name: RowName) -> Result<Row, Stopped>
-    requires slice { IsSlice model.now.facts name.index.slice }
-    requires year { IsYear model.now.facts name.index.year }
-    ensures { IsWritten name (by_rlfy (eba8 model.now.facts) name.index) result }
-{
-    let index!(region r, slice l, fuel f, year y) = name.index;
-    is_times(
-        alloc,
-        name,
-        variable!(USE; region r, slice l, fuel f, year y),
-        variable!(RATE_OF_USE; region r, slice l, fuel f, year y),
-        year_split(model, l, y),
-    )
-}
-
-/// EBa9: demand is its rate times the part of the year.
-pub(crate) fn eba9(alloc: Global, model: &ModelData, name: RowName) -> Result<Row, Stopped>
-    requires slice { IsSlice model.now.facts name.index.slice }
-    requires year { IsYear model.now.facts name.index.year }
-    ensures { IsWritten name (by_rlfy (eba9 model.now.facts) name.index) result }
-{
-    let index!(region r, slice l, fuel f, year y) = name.index;
-    is_times(
-        alloc,
-        name,
-        variable!(DEMAND; region r, slice l, fuel f, year y),
-        variable!(RATE_OF_DEMAND; region r, slice l, fuel f, year y),
+        variable!(kind; region r, slice l, fuel f, year y),
+        variable!(rate; region r, slice l, fuel f, year y),
         year_split(model, l, y),
     )
 }

@@ -7,48 +7,36 @@ ghost use Rattle.named_equations.specs.Variables.{trade_annual};
 ghost use Rattle.row_core.specs.EquationTerms.{IsWritten};
 ghost use Rattle.named_equations.specs.Indices.{by_rfy, by_rrrfy};
 ghost use Rattle.named_equations.specs.Within.{IsRegion, IsFuel, IsYear};
-ghost use Rattle.balance_rows.specs.Balance.{ebb1, ebb2, ebb3, ebb4};
+ghost use Rattle.balance_rows.specs.Balance.{fuel_in_year, ebb3, ebb4};
 
 use equation_parts::parameters::value;
 use equation_parts::{index, variable};
 use model_sets::param_numbers::{ACCUMULATED_ANNUAL_DEMAND, TRADE_ROUTE};
 use model_sets::set_numbers::{REGION, TIMESLICE};
 use param_tables::ModelData;
-use row_core::kind_numbers::{PRODUCTION, PRODUCTION_ANNUAL, TRADE, TRADE_ANNUAL, USE, USE_ANNUAL};
+use row_core::kind_numbers::{PRODUCTION_ANNUAL, TRADE, TRADE_ANNUAL, USE_ANNUAL};
 use row_core::{
     Index, LeftSide, Row, RowName, Sense, Stopped, Var, minus_one, negative, one, zero,
 };
 use std::alloc::Global;
 
-/// EBb1: the annual production is that of the timeslices.
-pub(crate) fn ebb1(alloc: Global, model: &ModelData, name: RowName) -> Result<Row, Stopped>
-    ensures { IsWritten name (by_rfy (ebb1 model.now.facts) name.index) result }
+/// EBb1 and EBb2: the annual production or use, the variable of this kind, is that of the timeslices.
+pub(crate) fn fuel_in_year(
+    alloc: Global,
+    model: &ModelData,
+    name: RowName,
+    kind: u8,
+    part: u8,
+) -> Result<Row, Stopped>
+    ensures { IsWritten name (by_rfy (fuel_in_year kind part model.now.facts) name.index) result }
 {
     let index!(region r, fuel f, year y) = name.index;
     let mut left = LeftSide::new(alloc, name);
-    let production = variable!(PRODUCTION_ANNUAL; region r, fuel f, year y);
-    left.add(production, one())?;
+    left.add(variable!(kind; region r, fuel f, year y), one())?;
     left.add_each(
         model.sets().count(TIMESLICE),
         |l| (
-            variable!(PRODUCTION; region r, slice l, fuel f, year y),
-            minus_one(),
-        ),
-    )?;
-    left.write(alloc, Sense::Equal, zero())
-}
-
-/// EBb2: the annual use is that of the timeslices.
-pub(crate) fn ebb2(alloc: Global, model: &ModelData, name: RowName) -> Result<Row, Stopped>
-    ensures { IsWritten name (by_rfy (ebb2 model.now.facts) name.index) result }
-{
-    let index!(region r, fuel f, year y) = name.index;
-    let mut left = LeftSide::new(alloc, name);
-    left.add(variable!(USE_ANNUAL; region r, fuel f, year y), one())?;
-    left.add_each(
-        model.sets().count(TIMESLICE),
-        |l| (
-            variable!(USE; region r, slice l, fuel f, year y),
+            variable!(part; region r, slice l, fuel f, year y),
             minus_one(),
         ),
     )?;

@@ -28,13 +28,6 @@ use Rattle.cost_rows.specs.Rows.{IsCostEquation, terms_at}
 abbrev pub IsNamed : ℕ → Data → Index → ℕ → Type 0
 IsNamed places d i n = IsNamedEquation places d (name_at n i) (terms_at places d (name_at n i))
 
--- that its terms mean it
-abbrev pub Means : ℕ → Data → Index → ℕ → Type 0
-Means places d i n = MeansStatement (terms_at places d (name_at n i)) (λ q x. says places d q x (name_at n i))
-
-definition : (places : ℕ) (d : Data) (i : Index) (n : ℕ) (v : Var) (m : Means places d i n) → variable_of (name_at n i) ≡ Some v → pos 0 <ℤ m.sum (alone v) → IsNamed places d i n
-definition places d i n v m is h = definition_is places d (name_at n i) (terms_at places d (name_at n i)) v m is h
-
 -- ---- shapes
 
 -- a variable is another times a written factor: CC2, SV4, OC4
@@ -112,36 +105,36 @@ cc1-named places d i =
     let z = capital_cost d i.region i.tech i.year in
     let f = recovery_factor_of places d i.region i.tech in
     let g = annuity_of places d i.region i.tech in
-    definition places d i CC1 v (invested places v w z f g d.second) refl (invested-defines places v w z f g d.second refl)
+    definition_is places d (name_at CC1 i) _ v (invested places v w z f g d.second) refl (invested-defines places v w z f g d.second refl)
 
 cc2-named : (places : ℕ) (d : Data) (i : Index) → IsNamed places d i CC2
-cc2-named places d i = definition places d i CC2 _ (factored places _ _ _) refl (factored-defines places _ _ _ refl)
+cc2-named places d i = definition_is places d (name_at CC2 i) _ _ (factored places _ _ _) refl (factored-defines places _ _ _ refl)
 
 -- ---- salvage value
 
 sv1-named : (places : ℕ) (d : Data) (i : Index) → IsNamed places d i SV1
-sv1-named places d i = definition places d i SV1 _ (valued places _ _ _ _) refl (valued-defines places _ _ _ _ refl)
+sv1-named places d i = definition_is places d (name_at SV1 i) _ _ (valued places _ _ _ _) refl (valued-defines places _ _ _ _ refl)
 
 sv2-named : (places : ℕ) (d : Data) (i : Index) → IsNamed places d i SV2
-sv2-named places d i = definition places d i SV2 _ (valued places _ _ _ _) refl (valued-defines places _ _ _ _ refl)
+sv2-named places d i = definition_is places d (name_at SV2 i) _ _ (valued places _ _ _ _) refl (valued-defines places _ _ _ _ refl)
 
 sv3-named : (places : ℕ) (d : Data) (i : Index) → IsNamed places d i SV3
 sv3-named places d i =
     let v = salvage_value i.region i.tech i.year in
     let none : (Var → ℤ) → ℤ = λ x. pos 0 in
     let is : (x : Var → ℤ) → IsSumOver (pos 1) x (coefficients_of []) (neg_ℤ (none x)) = λ x. sum-none (pos 1) x in
-    definition places d i SV3 v (made_of_others v [] none is) refl (made_of_others-defines v [] none is refl)
+    definition_is places d (name_at SV3 i) _ v (made_of_others v [] none is) refl (made_of_others-defines v [] none is refl)
 
 sv4-named : (places : ℕ) (d : Data) (i : Index) → IsNamed places d i SV4
-sv4-named places d i = definition places d i SV4 _ (factored places _ _ _) refl (factored-defines places _ _ _ refl)
+sv4-named places d i = definition_is places d (name_at SV4 i) _ _ (factored places _ _ _) refl (factored-defines places _ _ _ refl)
 
 -- ---- operating cost
 
 oc1-named : (places : ℕ) (d : Data) (i : Index) → IsNamed places d i OC1
-oc1-named places d i = definition places d i OC1 _ (weighted_sum _ (modes d) _ _) refl (weighted_sum-defines _ (modes d) _ _ (λ m. refl))
+oc1-named places d i = definition_is places d (name_at OC1 i) _ _ (weighted_sum _ (modes d) _ _) refl (weighted_sum-defines _ (modes d) _ _ (λ m. refl))
 
 oc2-named : (places : ℕ) (d : Data) (i : Index) → IsNamed places d i OC2
-oc2-named places d i = definition places d i OC2 _ (scaled_other _ _ _) refl (scaled_other-defines _ _ _ refl)
+oc2-named places d i = definition_is places d (name_at OC2 i) _ _ (scaled_other _ _ _) refl (scaled_other-defines _ _ _ refl)
 
 two_away : (a b : ℤ) → neg_ℤ a +ℤ (neg_ℤ b +ℤ pos 0) ≡ neg_ℤ (a +ℤ b)
 two_away a b = omega (arith, ints)
@@ -156,10 +149,10 @@ oc3-named places d i =
     let is : (x : Var → ℤ) → IsSumOver (pos 1) x (coefficients_of others) (neg_ℤ (n x)) = λ x.
     subst (IsSumOver (pos 1) x (coefficients_of others)) (two_away (x a) (x b))
     (sum-less x a (less b ∷ []) (neg_ℤ (x b) +ℤ pos 0) (sum-less x b [] (pos 0) (sum-none (pos 1) x))) in
-    definition places d i OC3 v (made_of_others v others n is) refl (made_of_others-defines v others n is refl)
+    definition_is places d (name_at OC3 i) _ v (made_of_others v others n is) refl (made_of_others-defines v others n is refl)
 
 oc4-named : (places : ℕ) (d : Data) (i : Index) → IsNamed places d i OC4
-oc4-named places d i = definition places d i OC4 _ (factored places _ _ _) refl (factored-defines places _ _ _ refl)
+oc4-named places d i = definition_is places d (name_at OC4 i) _ _ (factored places _ _ _) refl (factored-defines places _ _ _ refl)
 
 -- ---- total cost
 
@@ -181,13 +174,13 @@ tdc1-named places d i =
     (sum-less x b (less c ∷ once s ∷ []) (neg_ℤ (x c) +ℤ (x s +ℤ pos 0))
     (sum-less x c (once s ∷ []) (x s +ℤ pos 0)
     (sum-once x s [] (pos 0) (sum-none (pos 1) x))))) in
-    definition places d i TDC1 v (made_of_others v others n is) refl (made_of_others-defines v others n is refl)
+    definition_is places d (name_at TDC1 i) _ v (made_of_others v others n is) refl (made_of_others-defines v others n is refl)
 
 tdc2-named : (places : ℕ) (d : Data) (i : Index) → IsNamed places d i TDC2
-tdc2-named places d i = definition places d i TDC2 _ (sum_of_others _ (technologies d) _) refl (sum_of_others-defines _ (technologies d) _ (λ t. refl))
+tdc2-named places d i = definition_is places d (name_at TDC2 i) _ _ (sum_of_others _ (technologies d) _) refl (sum_of_others-defines _ (technologies d) _ (λ t. refl))
 
 acc4-named : (places : ℕ) (d : Data) (i : Index) → IsNamed places d i ACC4
-acc4-named places d i = definition places d i ACC4 _ (sum_of_others _ (all_years d) _) refl (sum_of_others-defines _ (all_years d) _ (λ y. refl))
+acc4-named places d i = definition_is places d (name_at ACC4 i) _ _ (sum_of_others _ (all_years d) _) refl (sum_of_others-defines _ (all_years d) _ (λ y. refl))
 
 -- ---- by number
 

@@ -34,13 +34,9 @@ cc2 places d r t y = is_times (discounted_capital_investment r t y) (capital_inv
 abbrev pub salvage_value_of_unit : ℕ → Data → ℕ → ℕ → ℕ → ℕ → Amount
 salvage_value_of_unit places d method r t y = Product (Billionths (capital_cost d r t y)) (Factor places (salvage_fraction_of places d method r t y))
 
--- SV1[r,t,y]: SalvageValue - NewCapacity * (CapitalCost * s) = 0, s being the fraction of the sinking fund
-abbrev pub sv1 : ℕ → Data → ℕ → ℕ → ℕ → EquationTerms
-sv1 places d r t y = is_times (salvage_value r t y) (new_capacity r t y) (salvage_value_of_unit places d 1 r t y)
-
--- SV2[r,t,y]: SalvageValue - NewCapacity * (CapitalCost * s) = 0, s being the fraction of the straight line
-abbrev pub sv2 : ℕ → Data → ℕ → ℕ → ℕ → EquationTerms
-sv2 places d r t y = is_times (salvage_value r t y) (new_capacity r t y) (salvage_value_of_unit places d 2 r t y)
+-- SV1 and SV2[r,t,y]: SalvageValue - NewCapacity * (CapitalCost * s) = 0, s being the fraction of this method, the sinking fund (1) or the straight line (2)
+abbrev pub salvage_by_method : ℕ → Data → ℕ → ℕ → ℕ → ℕ → EquationTerms
+salvage_by_method places d method r t y = is_times (salvage_value r t y) (new_capacity r t y) (salvage_value_of_unit places d method r t y)
 
 -- SV3[r,t,y]: SalvageValue = 0
 abbrev pub sv3 : Data → ℕ → ℕ → ℕ → EquationTerms

@@ -6,7 +6,7 @@ use Rattle.row_core.specs.declared.Index.{Index}
 use Rattle.row_core.specs.declared.RowName.{RowName}
 use Rattle.row_core.specs.EquationTerms.{EquationTerms}
 use Rattle.named_equations.specs.Indices.{by_r, by_rty, by_ry}
-use Rattle.cost_rows.specs.Costs.{cc1, cc2, sv1, sv2, sv3, sv4, oc1, oc2, oc3, oc4, tdc1, tdc2, acc4}
+use Rattle.cost_rows.specs.Costs.{cc1, cc2, salvage_by_method, sv3, sv4, oc1, oc2, oc3, oc4, tdc1, tdc2, acc4}
 
 -- the equations are numbers 25 to 34 and 40 to 42
 abbrev pub IsCostEquation : ℕ → Type 0
@@ -16,7 +16,7 @@ IsCostEquation eq = ((CC1 ≤ eq) × (eq ≤ OC4)) ⊎ ((TDC1 ≤ eq) × (eq ≤
 abbrev pub parts_of_cost : ℕ → Data → List (Index → EquationTerms)
 parts_of_cost places d =
     by_rty (cc1 places d) ∷ by_rty (cc2 places d)
-    ∷ by_rty (sv1 places d) ∷ by_rty (sv2 places d) ∷ by_rty (sv3 d) ∷ by_rty (sv4 places d)
+    ∷ by_rty (salvage_by_method places d 1) ∷ by_rty (salvage_by_method places d 2) ∷ by_rty (sv3 d) ∷ by_rty (sv4 places d)
     ∷ by_rty (oc1 d) ∷ by_rty (oc2 d) ∷ by_rty (oc3 d) ∷ by_rty (oc4 places d) ∷ []
 
 -- those of total cost as terms, from number 40

@@ -10,14 +10,13 @@ ghost use Rattle.named_equations.specs.RegionFactors.{AreRegionFactors, places_o
 ghost use Rattle.named_equations.specs.RowMeaning.{IsNamedRow};
 ghost use Rattle.cost_rows.specs.Rows.{IsCostEquation, terms_at};
 
-use crate::depreciation::{has_sv1, has_sv2, has_sv3};
+use crate::depreciation::{SINKING_FUND, STRAIGHT_LINE, has_sv1, has_sv2, has_sv3};
 use crate::investment::{cc1, cc2};
 use crate::operating_cost::{oc1, oc2, oc3, oc4};
-use crate::salvage::{sv1, sv2, sv3, sv4};
+use crate::salvage::{salvage_by_method, sv3, sv4};
 use crate::total_cost::{acc4, tdc1, tdc2};
 use discount_factors::Factors;
 use equation_parts::index;
-use equation_parts::instances::row_where;
 use param_tables::ModelData;
 use row_core::equation_numbers::{CC1, CC2, OC1, OC2, OC3, OC4, SV1, SV2, SV3, SV4, TDC1, TDC2};
 use row_core::{Index, Row, RowName, Stopped};
@@ -53,11 +52,14 @@ pub fn rows_of(
     ensures fits { IfOk result (λ found. IfSome found (λ row. all_fit (equation_formed (terms_at (places_of factors.now) model.now.facts (name_at eq at))) ≡ true)) }
     ensures stopped { IfErr result (IsStop (Place.Row (name_at eq at)) (not (stands_at model.now.facts eq at) || all_fit (equation_formed (terms_at (places_of factors.now) model.now.facts (name_at eq at))))) }
 {
+    if !stands(model, eq, at) {
+        return Ok(None);
+    }
     let name = RowName { eq, index: at };
-    row_where(
-        stands(model, eq, at),
-        || row_of(alloc, model, factors, name),
-    )
+    match row_of(alloc, model, factors, name) {
+        Ok(row) => Ok(Some(row)),
+        Err(stopped) => Err(stopped),
+    }
 }
 
 /// Whether the equation has an instance at the index.
@@ -91,8 +93,8 @@ fn row_of(
     match name.eq {
         CC1 => cc1(alloc, model, factors, name),
         CC2 => cc2(alloc, model, factors, name),
-        SV1 => sv1(alloc, model, factors, name),
-        SV2 => sv2(alloc, model, factors, name),
+        SV1 => salvage_by_method(alloc, model, factors, name, SINKING_FUND),
+        SV2 => salvage_by_method(alloc, model, factors, name, STRAIGHT_LINE),
         SV3 => sv3(alloc, model, name),
         SV4 => sv4(alloc, model, factors, name),
         OC1 => oc1(alloc, model, name),

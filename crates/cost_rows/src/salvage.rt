@@ -7,9 +7,8 @@ ghost use Rattle.named_equations.specs.Indices.{by_rty};
 ghost use Rattle.named_equations.specs.RegionFactors.{AreRegionFactors, places_of};
 ghost use Rattle.named_equations.specs.Salvage.{outlasts};
 ghost use Rattle.named_equations.specs.Within.{IsRegion, IsTechnology, IsYear};
-ghost use Rattle.cost_rows.specs.Costs.{salvage_value_of_unit, sv1, sv2, sv3, sv4};
+ghost use Rattle.cost_rows.specs.Costs.{salvage_by_method, salvage_value_of_unit, sv3, sv4};
 
-use crate::depreciation::{SINKING_FUND, STRAIGHT_LINE};
 use discount_factors::Factors;
 use equation_parts::factors::{final_capital_factor, salvage_fraction};
 use equation_parts::parameters::value;
@@ -46,19 +45,22 @@ fn salvage_value_of_unit(
     )
 }
 
-/// SV1: the salvage value is what the sinking fund leaves of what is built.
-pub(crate) fn sv1(
+/// SV1 and SV2: the salvage value is what this method of depreciation leaves of what is built.
+pub(crate) fn salvage_by_method(
     alloc: Global,
     model: &ModelData,
     factors: &[Factors],
     name: RowName,
+    method: u8,
 ) -> Result<Row, Stopped>
     requires factors { AreRegionFactors (places_of factors.now) model.now.facts factors.now }
+    requires method_least { 1 ≤ method }
+    requires method_most { method ≤ 2 }
     requires region { IsRegion model.now.facts name.index.region }
     requires technology { IsTechnology model.now.facts name.index.tech }
     requires year { IsYear model.now.facts name.index.year }
     requires outlasts { by_rty (outlasts model.now.facts) name.index ≡ true }
-    ensures { IsWritten name (by_rty (sv1 (places_of factors.now) model.now.facts) name.index) result }
+    ensures { IsWritten name (by_rty (salvage_by_method (places_of factors.now) model.now.facts method) name.index) result }
 {
     let index!(region r, tech t, year y) = name.index;
     is_times(
@@ -66,31 +68,7 @@ pub(crate) fn sv1(
         name,
         variable!(SALVAGE_VALUE; region r, tech t, year y),
         variable!(NEW_CAPACITY; region r, tech t, year y),
-        salvage_value_of_unit(model, factors, SINKING_FUND, r, t, y),
-    )
-}
-
-/// SV2: the salvage value is what the straight line leaves of what is built.
-pub(crate) fn sv2(
-    alloc: Global,
-    model: &ModelData,
-    factors: &[Factors],
-    name: RowName,
-) -> Result<Row, Stopped>
-    requires factors { AreRegionFactors (places_of factors.now) model.now.facts factors.now }
-    requires region { IsRegion model.now.facts name.index.region }
-    requires technology { IsTechnology model.now.facts name.index.tech }
-    requires year { IsYear model.now.facts name.index.year }
-    requires outlasts { by_rty (outlasts model.now.facts) name.index ≡ true }
-    ensures { IsWritten name (by_rty (sv2 (places_of factors.now) model.now.facts) name.index) result }
-{
-    let index!(region r, tech t, year y) = name.index;
-    is_times(
-        alloc,
-        name,
-        variable!(SALVAGE_VALUE; region r, tech t, year y),
-        variable!(NEW_CAPACITY; region r, tech t, year y),
-        salvage_value_of_unit(model, factors, STRAIGHT_LINE, r, t, y),
+        salvage_value_of_unit(model, factors, method, r, t, y),
     )
 }
 

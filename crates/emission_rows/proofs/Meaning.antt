@@ -29,16 +29,6 @@ use Rattle.emission_rows.specs.Rows.{IsEmissionEquation, terms_at}
 abbrev pub IsNamed : ℕ → Data → Index → ℕ → Type 0
 IsNamed places d i n = IsNamedEquation places d (name_at n i) (terms_at places d (name_at n i))
 
--- that its terms mean it
-abbrev pub Means : ℕ → Data → Index → ℕ → Type 0
-Means places d i n = MeansStatement (terms_at places d (name_at n i)) (λ q x. says places d q x (name_at n i))
-
-definition : (places : ℕ) (d : Data) (i : Index) (n : ℕ) (v : Var) (m : Means places d i n) → variable_of (name_at n i) ≡ Some v → pos 0 <ℤ m.sum (alone v) → IsNamed places d i n
-definition places d i n v m is h = definition_is places d (name_at n i) (terms_at places d (name_at n i)) v m is h
-
-inequality : (places : ℕ) (d : Data) (i : Index) (n : ℕ) → Means places d i n → variable_of (name_at n i) ≡ None → IsNamed places d i n
-inequality places d i n m none = inequality_is places d (name_at n i) (terms_at places d (name_at n i)) m none
-
 -- ---- technologies
 
 e1-named : (places : ℕ) (d : Data) (i : Index) → IsNamed places d i E1
@@ -50,16 +40,16 @@ e1-named places d i =
     let h : pos 0 <ℤ s = omega (arith, ints) in
     let n : (Var → ℤ) → ℤ = λ x. z *ℤ x w in
     let same : (x : Var → ℤ) → n x ≡ x w *ℤ z = λ x. *ℤ_comm z (x w) in
-    definition places d i E1 v (times_number s h v w (Billionths z) z (over-data z) n same) refl (times_number-defines s h v w (Billionths z) z (over-data z) n same refl)
+    definition_is places d (name_at E1 i) _ v (times_number s h v w (Billionths z) z (over-data z) n same) refl (times_number-defines s h v w (Billionths z) z (over-data z) n same refl)
 
 e2-named : (places : ℕ) (d : Data) (i : Index) → IsNamed places d i E2
-e2-named places d i = definition places d i E2 _ (sum_of_others _ _ _) refl (sum_of_others-defines _ _ _ (λ m. refl))
+e2-named places d i = definition_is places d (name_at E2 i) _ _ (sum_of_others _ _ _) refl (sum_of_others-defines _ _ _ (λ m. refl))
 
 e3-named : (places : ℕ) (d : Data) (i : Index) → IsNamed places d i E3
-e3-named places d i = definition places d i E3 _ (scaled_other _ _ _) refl (scaled_other-defines _ _ _ refl)
+e3-named places d i = definition_is places d (name_at E3 i) _ _ (scaled_other _ _ _) refl (scaled_other-defines _ _ _ refl)
 
 e4-named : (places : ℕ) (d : Data) (i : Index) → IsNamed places d i E4
-e4-named places d i = definition places d i E4 _ (sum_of_others _ (emissions d) _) refl (sum_of_others-defines _ (emissions d) _ (λ e. refl))
+e4-named places d i = definition_is places d (name_at E4 i) _ _ (sum_of_others _ (emissions d) _) refl (sum_of_others-defines _ (emissions d) _ (λ e. refl))
 
 e5-named : (places : ℕ) (d : Data) (i : Index) → IsNamed places d i E5
 e5-named places d i =
@@ -70,12 +60,12 @@ e5-named places d i =
     let h : pos 0 <ℤ s = factor_scale-positive places in
     let n : (Var → ℤ) → ℤ = λ x. x w *ℤ z in
     let same : (x : Var → ℤ) → n x ≡ x w *ℤ z = λ x. refl in
-    definition places d i E5 v (times_number s h v w (Factor places z) z (over-factor places z) n same) refl (times_number-defines s h v w (Factor places z) z (over-factor places z) n same refl)
+    definition_is places d (name_at E5 i) _ v (times_number s h v w (Factor places z) z (over-factor places z) n same) refl (times_number-defines s h v w (Factor places z) z (over-factor places z) n same refl)
 
 -- ---- regions
 
 e6-named : (places : ℕ) (d : Data) (i : Index) → IsNamed places d i E6
-e6-named places d i = definition places d i E6 _ (sum_of_others _ (technologies d) _) refl (sum_of_others-defines _ (technologies d) _ (λ t. refl))
+e6-named places d i = definition_is places d (name_at E6 i) _ _ (sum_of_others _ (technologies d) _) refl (sum_of_others-defines _ (technologies d) _ (λ t. refl))
 
 period_balanced : (s p n r : ℤ) → ((s *ℤ p) +ℤ (neg_ℤ s *ℤ n)) +ℤ ((s *ℤ n) +ℤ r) ≡ (s *ℤ p) +ℤ r
 period_balanced s p n r = ap (λ y. ((s *ℤ p) +ℤ y) +ℤ ((s *ℤ n) +ℤ r)) (neg_ℤ-*ℤ s n) ∙ omega (arith, ints)
@@ -112,7 +102,7 @@ period-defines places d i =
     (sum_over-zero (all_years d) (λ y. neg_ℤ s *ℤ alone v (w y)) (λ y. refl))
 
 e7-named : (places : ℕ) (d : Data) (i : Index) → IsNamed places d i E7
-e7-named places d i = definition places d i E7 (model_period_emissions i.region i.emission) (period-means places d i) refl (period-defines places d i)
+e7-named places d i = definition_is places d (name_at E7 i) _ (model_period_emissions i.region i.emission) (period-means places d i) refl (period-defines places d i)
 
 year_balanced : (a r : ℤ) → (a +ℤ pos 0) +ℤ r ≡ a +ℤ r
 year_balanced a r = omega (arith, ints)
@@ -137,10 +127,10 @@ year-means places d i =
     }
 
 e8-named : (places : ℕ) (d : Data) (i : Index) → IsNamed places d i E8
-e8-named places d i = inequality places d i E8 (year-means places d i) refl
+e8-named places d i = inequality_is places d (name_at E8 i) _ (year-means places d i) refl
 
 e9-named : (places : ℕ) (d : Data) (i : Index) → IsNamed places d i E9
-e9-named places d i = inequality places d i E9 (limit Most (model_period_emissions i.region i.emission) (model_period_emission_limit d i.region i.emission)) refl
+e9-named places d i = inequality_is places d (name_at E9 i) _ (limit Most (model_period_emissions i.region i.emission) (model_period_emission_limit d i.region i.emission)) refl
 
 -- ---- by number
 

@@ -14,8 +14,8 @@ use crate::regions::{e6, e7, e8, e9, has_e8, has_e9};
 use crate::technologies::{e1, e2, e3, e4, e5};
 use discount_factors::Factors;
 use equation_parts::index;
-use equation_parts::instances::row_where;
-use equation_parts::ratios::emits_in_mode;
+use equation_parts::ratios::is_not_zero;
+use model_sets::param_numbers::EMISSION_ACTIVITY_RATIO;
 use param_tables::ModelData;
 use row_core::equation_numbers::{E1, E2, E3, E4, E5, E6, E7, E8, E9};
 use row_core::{Index, Row, RowName, Stopped};
@@ -49,11 +49,14 @@ pub fn rows_of(
     ensures fits { IfOk result (λ found. IfSome found (λ row. all_fit (equation_formed (terms_at (places_of factors.now) model.now.facts (name_at eq at))) ≡ true)) }
     ensures stopped { IfErr result (IsStop (Place.Row (name_at eq at)) (not (stands_at model.now.facts eq at) || all_fit (equation_formed (terms_at (places_of factors.now) model.now.facts (name_at eq at))))) }
 {
+    if !stands(model, eq, at) {
+        return Ok(None);
+    }
     let name = RowName { eq, index: at };
-    row_where(
-        stands(model, eq, at),
-        || row_of(alloc, model, factors, name),
-    )
+    match row_of(alloc, model, factors, name) {
+        Ok(row) => Ok(Some(row)),
+        Err(stopped) => Err(stopped),
+    }
 }
 
 /// Whether the equation has an instance at the index.
@@ -64,7 +67,7 @@ fn stands(model: &ModelData, eq: u8, at: Index) -> bool
 {
     let index!(region r, tech t, emission e, mode m, year y) = at;
     match eq {
-        E1 => emits_in_mode(model, r, t, e, m, y),
+        E1 => is_not_zero(model, EMISSION_ACTIVITY_RATIO, &[r, t, e, m, y]),
         E8 => has_e8(model, r, e, y),
         E9 => has_e9(model, r, e),
         _ => true,

@@ -1,5 +1,4 @@
 pub mod FactorLaws
-pub mod InstanceLaws
 pub mod Rates
 pub mod Splits
 pub mod ValueLaws

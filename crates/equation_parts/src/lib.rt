@@ -5,7 +5,6 @@
 
 pub mod factors;
 mod indices;
-pub mod instances;
 pub mod limits;
 pub mod parameters;
 pub mod ratios;

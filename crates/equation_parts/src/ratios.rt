@@ -1,77 +1,41 @@
-//! Whether a technology makes a fuel, takes it, or gives off an emission: whether a ratio isn't 0.
+//! Whether a ratio of the data isn't 0: whether a technology makes a fuel, takes it, or gives off an emission.
 
-ghost use Rattle.std.specs.Prelude.{◌≡◌};
-ghost use Rattle.named_equations.specs.Where.{emits_in_mode, produces, produces_in_mode, uses, uses_in_mode};
-ghost use Rattle.named_equations.specs.Within.{IsRegion, IsTechnology, IsFuel, IsEmission, IsMode, IsYear};
+ghost use Rattle.std.specs.Prelude.{◌≡◌, ℕ, [], ◌∷◌};
+ghost use Rattle.std.specs.List.{list_any};
+ghost use Rattle.model_sets.specs.Data.{IsUsedParam};
+ghost use Rattle.named_equations.specs.Parameters.{value_of};
+ghost use Rattle.named_equations.specs.Positions.{modes};
+ghost use Rattle.named_equations.specs.Where.{is_not_zero};
+ghost use Rattle.named_equations.specs.Within.{IsMode};
+ghost use Rattle.param_tables.specs.Positions.{IsIndexOf, names_at};
 
-use model_sets::param_numbers::{
-    EMISSION_ACTIVITY_RATIO, INPUT_ACTIVITY_RATIO, OUTPUT_ACTIVITY_RATIO,
-};
 use model_sets::set_numbers::MODE_OF_OPERATION;
 use param_tables::ModelData;
 
-/// Whether the technology makes the fuel in this mode: its output ratio isn't 0.
-pub fn produces_in_mode(model: &ModelData, r: u16, t: u16, f: u16, m: u16, y: u16) -> bool
-    requires region { IsRegion model.now.facts r }
-    requires technology { IsTechnology model.now.facts t }
-    requires fuel { IsFuel model.now.facts f }
-    requires mode { IsMode model.now.facts m }
-    requires year { IsYear model.now.facts y }
-    ensures { result ≡ produces_in_mode model.now.facts r t f m y }
+/// Whether the value of a parameter at positions in the sets of its subscripts isn't 0.
+pub fn is_not_zero(model: &ModelData, param: u8, index: &[u16]) -> bool
+    requires used { IsUsedParam model.now.facts param }
+    requires index { IsIndexOf model.now.facts.sets param index.now }
+    ensures { result ≡ is_not_zero (value_of model.now.facts param (names_at model.now.facts.sets param index.now)) }
 {
-    model.at(OUTPUT_ACTIVITY_RATIO, &[r, t, f, m, y]).num != 0
+    model.at(param, index).num != 0
 }
 
-/// Whether the technology takes the fuel in this mode: its input ratio isn't 0.
-pub fn uses_in_mode(model: &ModelData, r: u16, t: u16, f: u16, m: u16, y: u16) -> bool
-    requires region { IsRegion model.now.facts r }
-    requires technology { IsTechnology model.now.facts t }
-    requires fuel { IsFuel model.now.facts f }
-    requires mode { IsMode model.now.facts m }
-    requires year { IsYear model.now.facts y }
-    ensures { result ≡ uses_in_mode model.now.facts r t f m y }
-{
-    model.at(INPUT_ACTIVITY_RATIO, &[r, t, f, m, y]).num != 0
-}
-
-/// Whether the technology gives off the emission in this mode, or takes it up: its emission ratio isn't 0.
-pub fn emits_in_mode(model: &ModelData, r: u16, t: u16, e: u16, m: u16, y: u16) -> bool
-    requires region { IsRegion model.now.facts r }
-    requires technology { IsTechnology model.now.facts t }
-    requires emission { IsEmission model.now.facts e }
-    requires mode { IsMode model.now.facts m }
-    requires year { IsYear model.now.facts y }
-    ensures { result ≡ emits_in_mode model.now.facts r t e m y }
-{
-    model.at(EMISSION_ACTIVITY_RATIO, &[r, t, e, m, y]).num != 0
-}
-
-/// Whether the technology makes the fuel in some mode.
-pub fn produces(model: &ModelData, r: u16, t: u16, f: u16, y: u16) -> bool
-    requires region { IsRegion model.now.facts r }
-    requires technology { IsTechnology model.now.facts t }
-    requires fuel { IsFuel model.now.facts f }
-    requires year { IsYear model.now.facts y }
-    ensures { result ≡ produces model.now.facts r t f y }
+/// Whether a ratio of region, technology, fuel, mode and year isn't 0 in some mode.
+pub fn is_not_zero_in_some_mode(
+    model: &ModelData,
+    ratio: u8,
+    r: u16,
+    t: u16,
+    f: u16,
+    y: u16,
+) -> bool
+    requires used { IsUsedParam model.now.facts ratio }
+    requires index { (m : ℕ) → IsMode model.now.facts m → IsIndexOf model.now.facts.sets ratio (r ∷ t ∷ f ∷ m ∷ y ∷ []) }
+    ensures { result ≡ list_any (λ m. is_not_zero (value_of model.now.facts ratio (names_at model.now.facts.sets ratio (r ∷ t ∷ f ∷ m ∷ y ∷ [])))) (modes model.now.facts) }
 {
     for m in 0..model.sets().count(MODE_OF_OPERATION) {
-        if produces_in_mode(model, r, t, f, m, y) {
-            return true;
-        }
-    }
-    false
-}
-
-/// Whether the technology takes the fuel in some mode.
-pub fn uses(model: &ModelData, r: u16, t: u16, f: u16, y: u16) -> bool
-    requires region { IsRegion model.now.facts r }
-    requires technology { IsTechnology model.now.facts t }
-    requires fuel { IsFuel model.now.facts f }
-    requires year { IsYear model.now.facts y }
-    ensures { result ≡ uses model.now.facts r t f y }
-{
-    for m in 0..model.sets().count(MODE_OF_OPERATION) {
-        if uses_in_mode(model, r, t, f, m, y) {
+        if is_not_zero(model, ratio, &[r, t, f, m, y]) {
             return true;
         }
     }

@@ -28,51 +28,41 @@ use Rattle.named_equations.proofs.TermShapes.{means_equal, means_equal-defines, 
 abbrev pub IsNamed : ℕ → Data → Index → ℕ → Type 0
 IsNamed places d i n = IsNamedEquation places d (name_at n i) (terms_at d (name_at n i))
 
--- that its terms mean it
-abbrev pub Means : ℕ → Data → Index → ℕ → Type 0
-Means places d i n = MeansStatement (terms_at d (name_at n i)) (λ q x. says places d q x (name_at n i))
-
-definition : (places : ℕ) (d : Data) (i : Index) (n : ℕ) (v : Var) (m : Means places d i n) → variable_of (name_at n i) ≡ Some v → pos 0 <ℤ m.sum (alone v) → IsNamed places d i n
-definition places d i n v m is h = definition_is places d (name_at n i) (terms_at d (name_at n i)) v m is h
-
-inequality : (places : ℕ) (d : Data) (i : Index) (n : ℕ) → Means places d i n → variable_of (name_at n i) ≡ None → IsNamed places d i n
-inequality places d i n m none = inequality_is places d (name_at n i) (terms_at d (name_at n i)) m none
-
 -- ---- total capacity
 
 tcc1-named : (places : ℕ) (d : Data) (i : Index) → IsNamed places d i TCC1
-tcc1-named places d i = inequality places d i TCC1 (limit Most (total_capacity_annual i.region i.tech i.year) (total_annual_max_capacity d i.region i.tech i.year)) refl
+tcc1-named places d i = inequality_is places d (name_at TCC1 i) _ (limit Most (total_capacity_annual i.region i.tech i.year) (total_annual_max_capacity d i.region i.tech i.year)) refl
 
 tcc2-named : (places : ℕ) (d : Data) (i : Index) → IsNamed places d i TCC2
-tcc2-named places d i = inequality places d i TCC2 (limit Least (total_capacity_annual i.region i.tech i.year) (total_annual_min_capacity d i.region i.tech i.year)) refl
+tcc2-named places d i = inequality_is places d (name_at TCC2 i) _ (limit Least (total_capacity_annual i.region i.tech i.year) (total_annual_min_capacity d i.region i.tech i.year)) refl
 
 -- ---- new capacity
 
 ncc1-named : (places : ℕ) (d : Data) (i : Index) → IsNamed places d i NCC1
-ncc1-named places d i = inequality places d i NCC1 (limit Most (new_capacity i.region i.tech i.year) (total_annual_max_capacity_investment d i.region i.tech i.year)) refl
+ncc1-named places d i = inequality_is places d (name_at NCC1 i) _ (limit Most (new_capacity i.region i.tech i.year) (total_annual_max_capacity_investment d i.region i.tech i.year)) refl
 
 ncc2-named : (places : ℕ) (d : Data) (i : Index) → IsNamed places d i NCC2
-ncc2-named places d i = inequality places d i NCC2 (limit Least (new_capacity i.region i.tech i.year) (total_annual_min_capacity_investment d i.region i.tech i.year)) refl
+ncc2-named places d i = inequality_is places d (name_at NCC2 i) _ (limit Least (new_capacity i.region i.tech i.year) (total_annual_min_capacity_investment d i.region i.tech i.year)) refl
 
 -- ---- activity
 
 aac1-named : (places : ℕ) (d : Data) (i : Index) → IsNamed places d i AAC1
-aac1-named places d i = definition places d i AAC1 _ (weighted_sum _ (timeslices d) _ _) refl (weighted_sum-defines _ (timeslices d) _ _ (λ l. refl))
+aac1-named places d i = definition_is places d (name_at AAC1 i) _ _ (weighted_sum _ (timeslices d) _ _) refl (weighted_sum-defines _ (timeslices d) _ _ (λ l. refl))
 
 aac2-named : (places : ℕ) (d : Data) (i : Index) → IsNamed places d i AAC2
-aac2-named places d i = inequality places d i AAC2 (limit Most (total_technology_annual_activity i.region i.tech i.year) (total_technology_annual_activity_upper_limit d i.region i.tech i.year)) refl
+aac2-named places d i = inequality_is places d (name_at AAC2 i) _ (limit Most (total_technology_annual_activity i.region i.tech i.year) (total_technology_annual_activity_upper_limit d i.region i.tech i.year)) refl
 
 aac3-named : (places : ℕ) (d : Data) (i : Index) → IsNamed places d i AAC3
-aac3-named places d i = inequality places d i AAC3 (limit Least (total_technology_annual_activity i.region i.tech i.year) (total_technology_annual_activity_lower_limit d i.region i.tech i.year)) refl
+aac3-named places d i = inequality_is places d (name_at AAC3 i) _ (limit Least (total_technology_annual_activity i.region i.tech i.year) (total_technology_annual_activity_lower_limit d i.region i.tech i.year)) refl
 
 tac1-named : (places : ℕ) (d : Data) (i : Index) → IsNamed places d i TAC1
-tac1-named places d i = definition places d i TAC1 _ (sum_of_others _ (all_years d) _) refl (sum_of_others-defines _ (all_years d) _ (λ y. refl))
+tac1-named places d i = definition_is places d (name_at TAC1 i) _ _ (sum_of_others _ (all_years d) _) refl (sum_of_others-defines _ (all_years d) _ (λ y. refl))
 
 tac2-named : (places : ℕ) (d : Data) (i : Index) → IsNamed places d i TAC2
-tac2-named places d i = inequality places d i TAC2 (limit Most (total_technology_model_period_activity i.region i.tech) (total_technology_model_period_activity_upper_limit d i.region i.tech)) refl
+tac2-named places d i = inequality_is places d (name_at TAC2 i) _ (limit Most (total_technology_model_period_activity i.region i.tech) (total_technology_model_period_activity_upper_limit d i.region i.tech)) refl
 
 tac3-named : (places : ℕ) (d : Data) (i : Index) → IsNamed places d i TAC3
-tac3-named places d i = inequality places d i TAC3 (limit Least (total_technology_model_period_activity i.region i.tech) (total_technology_model_period_activity_lower_limit d i.region i.tech)) refl
+tac3-named places d i = inequality_is places d (name_at TAC3 i) _ (limit Least (total_technology_model_period_activity i.region i.tech) (total_technology_model_period_activity_lower_limit d i.region i.tech)) refl
 
 -- ---- reserve margin
 
@@ -86,20 +76,20 @@ rm1-named places d i =
     let s : ℤ = scale_of 2 in
     let h : pos 0 <ℤ s = omega (arith, ints) in
     let over : (t : ℕ) → IsOver s (value_of_amount (a t)) (tag t *ℤ unit t) = λ t. over-product (tag t) (unit t) in
-    definition places d i RM1 v (sum_of_products s h v (technologies d) w a (λ t. tag t *ℤ unit t) over) refl
+    definition_is places d (name_at RM1 i) _ v (sum_of_products s h v (technologies d) w a (λ t. tag t *ℤ unit t) over) refl
     (sum_of_products-defines s h v (technologies d) w a (λ t. tag t *ℤ unit t) over (λ t. refl))
 
 rm2-named : (places : ℕ) (d : Data) (i : Index) → IsNamed places d i RM2
-rm2-named places d i = definition places d i RM2 _ (weighted_sum _ (fuels d) _ _) refl (weighted_sum-defines _ (fuels d) _ _ (λ f. refl))
+rm2-named places d i = definition_is places d (name_at RM2 i) _ _ (weighted_sum _ (fuels d) _ _) refl (weighted_sum-defines _ (fuels d) _ _ (λ f. refl))
 
 rm3-named : (places : ℕ) (d : Data) (i : Index) → IsNamed places d i RM3
 rm3-named places d i =
-    inequality places d i RM3 (covered_after (demand_needing_reserve_margin i.region i.slice i.year) (reserve_margin d i.region i.year) (total_capacity_in_reserve_margin i.region i.year)) refl
+    inequality_is places d (name_at RM3 i) _ (covered_after (demand_needing_reserve_margin i.region i.slice i.year) (reserve_margin d i.region i.year) (total_capacity_in_reserve_margin i.region i.year)) refl
 
 -- ---- renewable target
 
 re1-named : (places : ℕ) (d : Data) (i : Index) → IsNamed places d i RE1
-re1-named places d i = definition places d i RE1 _ (sum_of_others _ (timeslices d) _) refl (sum_of_others-defines _ (timeslices d) _ (λ l. refl))
+re1-named places d i = definition_is places d (name_at RE1 i) _ _ (sum_of_others _ (timeslices d) _) refl (sum_of_others-defines _ (timeslices d) _ (λ l. refl))
 
 re2-named : (places : ℕ) (d : Data) (i : Index) → IsNamed places d i RE2
 re2-named places d i =
@@ -118,7 +108,7 @@ re2-named places d i =
     let same : (x : Var → ℤ) → by_technology x ≡ by_fuel x =
     λ x. sum_over-exchanged (technologies d) (fuels d) (λ t f. produces d r t f y) (λ t f. x (w f t) *ℤ tag f t) in
     let each = sum_of_sums s h v (fuels d) makers w a tag over in
-    definition places d i RE2 v (means_equal s v (re2 d r y) by_fuel by_technology same each) refl
+    definition_is places d (name_at RE2 i) _ v (means_equal s v (re2 d r y) by_fuel by_technology same each) refl
     (means_equal-defines s v (re2 d r y) by_fuel by_technology same each (sum_of_sums-defines s h v (fuels d) makers w a tag over (λ f t. refl)))
 
 re3-named : (places : ℕ) (d : Data) (i : Index) → IsNamed places d i RE3
@@ -132,14 +122,14 @@ re3-named places d i =
     let s : ℤ = scale_of 2 in
     let h : pos 0 <ℤ s = omega (arith, ints) in
     let over : (l f : ℕ) → IsOver s (value_of_amount (a l f)) (z l f) = λ l f. over-product (split l) (tag f) in
-    definition places d i RE3 v (sum_of_sums s h v (timeslices d) (λ l. fuels d) w a z over) refl (sum_of_sums-defines s h v (timeslices d) (λ l. fuels d) w a z over (λ l f. refl))
+    definition_is places d (name_at RE3 i) _ v (sum_of_sums s h v (timeslices d) (λ l. fuels d) w a z over) refl (sum_of_sums-defines s h v (timeslices d) (λ l. fuels d) w a z over (λ l f. refl))
 
 re4-named : (places : ℕ) (d : Data) (i : Index) → IsNamed places d i RE4
 re4-named places d i =
-    inequality places d i RE4 (covered (re_total_production_of_target_fuel_annual i.region i.year) (re_min_production_target d i.region i.year) (total_re_production_annual i.region i.year)) refl
+    inequality_is places d (name_at RE4 i) _ (covered (re_total_production_of_target_fuel_annual i.region i.year) (re_min_production_target d i.region i.year) (total_re_production_annual i.region i.year)) refl
 
 re5-named : (places : ℕ) (d : Data) (i : Index) → IsNamed places d i RE5
-re5-named places d i = definition places d i RE5 _ (sum_of_others _ (timeslices d) _) refl (sum_of_others-defines _ (timeslices d) _ (λ l. refl))
+re5-named places d i = definition_is places d (name_at RE5 i) _ _ (sum_of_others _ (timeslices d) _) refl (sum_of_others-defines _ (timeslices d) _ (λ l. refl))
 
 -- ---- by number
 

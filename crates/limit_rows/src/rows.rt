@@ -14,8 +14,8 @@ use crate::limits::{is_set, limit_row};
 use crate::renewable_target::{re1, re2, re3, re4, re5};
 use crate::reserve_margin::{rm1, rm2, rm3};
 use equation_parts::index;
-use equation_parts::instances::row_where;
-use equation_parts::ratios::{produces, uses};
+use equation_parts::ratios::is_not_zero_in_some_mode;
+use model_sets::param_numbers::{INPUT_ACTIVITY_RATIO, OUTPUT_ACTIVITY_RATIO};
 use param_tables::ModelData;
 use row_core::equation_numbers::{AAC1, RE1, RE2, RE3, RE4, RE5, RM1, RM2, RM3, TAC1, TAC3, TCC1};
 use row_core::{Index, Row, RowName, Stopped};
@@ -40,8 +40,14 @@ pub fn rows_of(alloc: Global, model: &ModelData, eq: u8, at: Index) -> Result<Op
     ensures fits { IfOk result (λ found. IfSome found (λ row. all_fit (equation_formed (terms_at model.now.facts (name_at eq at))) ≡ true)) }
     ensures stopped { IfErr result (IsStop (Place.Row (name_at eq at)) (not (stands_at model.now.facts eq at) || all_fit (equation_formed (terms_at model.now.facts (name_at eq at))))) }
 {
+    if !stands(model, eq, at) {
+        return Ok(None);
+    }
     let name = RowName { eq, index: at };
-    row_where(stands(model, eq, at), || row_of(alloc, model, name))
+    match row_of(alloc, model, name) {
+        Ok(row) => Ok(Some(row)),
+        Err(stopped) => Err(stopped),
+    }
 }
 
 /// Whether the equation has an instance at the index.
@@ -55,8 +61,8 @@ fn stands(model: &ModelData, eq: u8, at: Index) -> bool
         AAC1 => true,
         TAC1 => true,
         TCC1..=TAC3 => is_set(model, eq, at),
-        RE1 => produces(model, r, t, f, y),
-        RE5 => uses(model, r, t, f, y),
+        RE1 => is_not_zero_in_some_mode(model, OUTPUT_ACTIVITY_RATIO, r, t, f, y),
+        RE5 => is_not_zero_in_some_mode(model, INPUT_ACTIVITY_RATIO, r, t, f, y),
         _ => true,
     }
 }

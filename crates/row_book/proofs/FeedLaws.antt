@@ -217,9 +217,6 @@ before-at d before eq z counts low high =
     let place : 1 + (eq - 1) ≡ eq = omega (arith, low) in
     ap (λ (ns : List ℕ). get_or ns (eq - 1) z) counts ∙ get_or-map-range_with_len (λ e. length (names_to d (e - 1))) 1 64 (eq - 1) eq z inside place
 
-pub before-long : (d : Data) (before : List ℕ) → before ≡ rows_before d 64 → length before ≡ 64
-before-long d before counts = ap length counts ∙ length-map-range_with_len (λ e. length (names_to d (e - 1))) 1 64
-
 -- the rows of an equation are ahead, where none of them is made
 pub ahead-starts : (places : ℕ) (d : Data) (before : List ℕ) (rows : List Row) (eq z : ℕ) → before ≡ rows_before d 64 → 1 ≤ eq → eq < 65
     → ahead_after (get_or before (eq - 1) z) false rows (equation_contents places d eq) ≡ rows_of_equation eq (all_contents places d)
@@ -245,21 +242,6 @@ at-start None passed rows contents = refl
 at-start (Some place) passed rows contents = refl
 
 -- ---- the next row
-
--- the last of the rows is the next one
-reverse-last : (rows : List Row) (row : Row) → reverse (rows ++ row ∷ []) ≡ row ∷ reverse rows
-reverse-last rows row = reverse-append rows (row ∷ [])
-
-pub next-answers : (passed number : ℕ) (before after : List Row) (row : Row) → number ≡ passed + 1 → before ≡ after ++ row ∷ [] → Answers (ahead_after passed true before []) (Some (number, row)) (ahead_after number true after [])
-next-answers passed number before after row counted split =
-    ap (λ (rows : List Row). enumerate_from (passed + 1) (map contents_of (reverse rows))) split
-    ∙ ap (λ (rows : List Row). enumerate_from (passed + 1) (map contents_of rows)) (reverse-last after row)
-    ∙ ap (λ (n : ℕ). (n, contents_of row) ∷ enumerate_from (n + 1) (map contents_of (reverse after))) (sym counted)
-
-pub none-answers : (passed : ℕ) (before after : List Row) → length before ≡ 0 → before ≡ after ++ [] → Answers (ahead_after passed true before []) None (ahead_after passed true after [])
-none-answers passed [] [] empty split = (refl, refl)
-none-answers passed [] (row ∷ rows) empty split = absurd (cc split)
-none-answers passed (row ∷ rows) after empty split = absurd (omega (arith, empty))
 
 -- what is answered of one list and leaves another is answered of a list that is the same
 pub answers-same : {T : Type 0} (r : Result (Option (ℕ × Row)) T) (a b x y : List (ℕ × RowContents)) → a ≡ x → b ≡ y → IfOk r (λ found. Answers a found b) → IfOk r (λ found. Answers x found y)

@@ -31,31 +31,6 @@ use Rattle.row_book.proofs.RowsAddedLaws.{both_fit, both_lists, stops-earlier, s
 
 -- ---- marks
 
-turn : (m a p r : Bool) → ((m || (a && p)) || (a && r)) ≡ (m || (a && (p || r)))
-turn true a p r = refl
-turn false true p r = refl
-turn false false p r = refl
-
--- an entry is marked, and then those after it
-pub entry-turn : (now m a p r whole : Bool) → now ≡ (m || (a && p)) → (m || (a && (p || r))) ≡ whole → (now || (a && r)) ≡ whole
-entry-turn now m a p r whole is so_far = ap (λ (b : Bool). b || (a && r)) is ∙ turn m a p r ∙ so_far
-
-pub entry-end : (m a whole : Bool) → (m || (a && false)) ≡ whole → m ≡ whole
-entry-end true a whole so_far = so_far
-entry-end false true whole so_far = so_far
-entry-end false false whole so_far = so_far
-
-three : (m p r : Bool) → ((m || p) || r) ≡ (m || (p || r))
-three true p r = refl
-three false p r = refl
-
-pub row-turn : (now m p r whole : Bool) → now ≡ (m || p) → (m || (p || r)) ≡ whole → (now || r) ≡ whole
-row-turn now m p r whole is so_far = ap (λ (b : Bool). b || r) is ∙ three m p r ∙ so_far
-
-pub row-end : (m whole : Bool) → (m || false) ≡ whole → m ≡ whole
-row-end true whole so_far = so_far
-row-end false whole so_far = so_far
-
 -- the marks of some rows, and of others after them
 marks-more : (table new : List Bool) (rows others : List RowContents) → Marks table rows → MarksMore table new (λ eq kind. has_kind eq kind others) → Marks new (rows ++ others)
 marks-more table new rows others marks more = record {

@@ -19,34 +19,13 @@ overflow_mul-result c =
     let z : ℤ = unwrap_or given (pos 0) in
     subst (λ n. FitsSigned w128 n) (sym (rate-computed z num den c.at-value.result.num_fits c.at-value.result.den_fits rate)) (FitsSigned-from_InRange _ (rate-fits z num den rate))
 
-pub returns-clause-least : goal.returns-clause-least
-returns-clause-least c =
+pub returns : goal.returns
+returns c =
     let d = c.args.model.now.facts in
     let given : Option ℤ = value_at d c.args.param (names_at d.sets c.args.param c.args.index.now) in
     let num = c.at-value.result.num in
     let den = c.at-value.result.den in
     let rate = rate-of_given given num den (range_of c.args.param) c.at-value.ensures.amount c.at-value.result.positive c.requires.range c.at-value.ensures.given in
     let z : ℤ = unwrap_or given (pos 0) in
-    subst (λ n. pos 0 ≤ℤ n)
-    (sym (ap (λ n. to_z w128 (of_z w128 n)) (rate-computed z num den c.at-value.result.num_fits c.at-value.result.den_fits rate) ∙ rate-back z num den rate)) rate.least
-
-pub returns-clause-most : goal.returns-clause-most
-returns-clause-most c =
-    let d = c.args.model.now.facts in
-    let given : Option ℤ = value_at d c.args.param (names_at d.sets c.args.param c.args.index.now) in
-    let num = c.at-value.result.num in
-    let den = c.at-value.result.den in
-    let rate = rate-of_given given num den (range_of c.args.param) c.at-value.ensures.amount c.at-value.result.positive c.requires.range c.at-value.ensures.given in
-    let z : ℤ = unwrap_or given (pos 0) in
-    subst (λ n. n ≤ℤ pos 1000000000)
-    (sym (ap (λ n. to_z w128 (of_z w128 n)) (rate-computed z num den c.at-value.result.num_fits c.at-value.result.den_fits rate) ∙ rate-back z num den rate)) rate.most
-
-pub returns-clause-exact : goal.returns-clause-exact
-returns-clause-exact c =
-    let d = c.args.model.now.facts in
-    let given : Option ℤ = value_at d c.args.param (names_at d.sets c.args.param c.args.index.now) in
-    let num = c.at-value.result.num in
-    let den = c.at-value.result.den in
-    let rate = rate-of_given given num den (range_of c.args.param) c.at-value.ensures.amount c.at-value.result.positive c.requires.range c.at-value.ensures.given in
-    let z : ℤ = unwrap_or given (pos 0) in
-    ap (λ n. to_z w128 (of_z w128 n)) (rate-computed z num den c.at-value.result.num_fits c.at-value.result.den_fits rate) ∙ rate-back z num den rate
+    let is = ap (λ n. to_z w128 (of_z w128 n)) (rate-computed z num den c.at-value.result.num_fits c.at-value.result.den_fits rate) ∙ rate-back z num den rate in
+    record { least = subst (λ n. pos 0 ≤ℤ n) (sym is) rate.least; most = subst (λ n. n ≤ℤ pos 1000000000) (sym is) rate.most; exact = is }

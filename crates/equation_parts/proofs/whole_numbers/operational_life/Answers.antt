@@ -17,17 +17,13 @@ overflow_cast-result c =
     let short = life.short in
     rw (back_in_range c.at.result.num c.at.result.num_fits, life.top) (search rules)
 
-pub returns-clause-exact : goal.returns-clause-exact
-returns-clause-exact c =
-    let d = c.args.model.now.facts in
-    let given : Option ℤ = value_at d OPERATIONAL_LIFE (region_name d c.args.r ∷ technology_name d c.args.t ∷ []) in
-    let life = life-given given (value_of c.at.result) c.at.ensures.amount c.at.ensures.given in
-    ap unsigned_abs (back_in_range c.at.result.num c.at.result.num_fits ∙ life.top) ∙ life.is
-
-pub returns-clause-some : goal.returns-clause-some
-returns-clause-some c =
+pub returns : goal.returns
+returns c =
     let d = c.args.model.now.facts in
     let given : Option ℤ = value_at d OPERATIONAL_LIFE (region_name d c.args.r ∷ technology_name d c.args.t ∷ []) in
     let life = life-given given (value_of c.at.result) c.at.ensures.amount c.at.ensures.given in
     let some = life.some in
-    rw (back_in_range c.at.result.num c.at.result.num_fits, life.top) (search rules)
+    record {
+      exact = ap unsigned_abs (back_in_range c.at.result.num c.at.result.num_fits ∙ life.top) ∙ life.is;
+      some = rw (back_in_range c.at.result.num c.at.result.num_fits, life.top) (search rules);
+    }

@@ -5,12 +5,6 @@ use Rattle.named_equations.specs.Instances.{stands_at}
 use Rattle.limit_rows.proofs.Meaning.{everywhere_else}
 use Rattle.limit_rows.proofs.rows.stands.Goals as goal
 
-pub returns-in-47 : goal.returns-in-47
-returns-in-47 c = subst (λ n. true ≡ stands_at c.args.model.now.facts n c.args.at) (sym c.in-47.is) refl
-
-pub returns-in-50 : goal.returns-in-50
-returns-in-50 c = subst (λ n. true ≡ stands_at c.args.model.now.facts n c.args.at) (sym c.in-50.is) refl
-
 pub returns-in_default : goal.returns-in_default
 returns-in_default c =
     let a : c.args.eq ≢ RE1 = search rules in
