@@ -1,35 +1,8 @@
 -- What proves an end is accepted: nothing else is due of its file.
-use Rattle.std.proofs.Common.{◌≡◌, ℕ, ℤ, pos, Bool, true, List, [], ◌∷◌, ◌++◌, map, inl, inr, Some, sym, ap, ◌∙◌, subst}
-use Rattle.std.specs.Prelude.{codes, int_lt}
+use Rattle.check_command.proofs.Common.{◌≡◌, ℕ, ℤ, pos, Bool, true, List, [], ◌∷◌, ◌++◌, map, inl, inr, Some, sym, ap, ◌∙◌, subst, codes, int_lt, Rational, Data, SetLists, Row, RowName, Var, contents_of, row_name_cmp, value_in, all_variables, instances, AreRowsOf, AllPass, Condition, model_cost, no_cost, gap_condition, bound_conditions, bound_value, direction_conditions, plan_conditions, PlanFault, Fields, records_of, Proof, Optimum, Refutation, Descent, IsProof, IsProofFault, Status, Done, DueForPlan, check_conditions, multiplier_bound, plan_cost, DueForConditions, DueForProofFile, DueForProofTold, descent_conditions, refutation_conditions}
 use mathlib.Core.Path.{fun_ext}
-use Rattle.exact_num.specs.Rational.{Rational}
-use Rattle.model_sets.specs.Data.{Data}
-use Rattle.model_sets.specs.Members.{SetLists}
 use Rattle.mps_writer.specs.MpsText.{line}
-use Rattle.row_core.specs.declared.Row.{Row}
-use Rattle.row_core.specs.declared.RowName.{RowName}
-use Rattle.row_core.specs.declared.Var.{Var}
-use Rattle.row_core.specs.Contents.{contents_of}
-use Rattle.row_core.specs.Order.{row_name_cmp}
-use Rattle.row_core.specs.Plans.{value_in}
-use Rattle.named_equations.specs.Existence.{all_variables}
-use Rattle.named_equations.specs.Instances.{instances}
-use Rattle.row_book.specs.Books.{AreRowsOf}
-use Rattle.certificate_checker.specs.Conditions.{AllPass, Condition}
-use Rattle.certificate_checker.specs.Costs.{model_cost, no_cost}
-use Rattle.certificate_checker.specs.Gaps.{gap_condition}
-use Rattle.certificate_checker.specs.MultiplierChecks.{bound_conditions, bound_value}
-use Rattle.certificate_checker.specs.PlanChecks.{direction_conditions, plan_conditions}
 use Rattle.certified_answers.specs.Worth.{IsBound, IsDescent, IsNear, IsPlan, IsRefutation}
-use Rattle.plan_files.specs.declared.faults.PlanFault.{PlanFault}
-use Rattle.plan_files.specs.Files.{Fields, records_of}
-use Rattle.proof_files.specs.declared.proof.Proof.{Proof}
-use Rattle.proof_files.specs.declared.proof.Proof.TheVariants.{Optimum, Refutation, Descent}
-use Rattle.proof_files.specs.Proofs.{IsProof, IsProofFault}
-use Rattle.command_answers.specs.declared.status.Status.{Status}
-use Rattle.command_answers.specs.declared.status.Status.TheVariants.{Done}
-use Rattle.check_command.specs.Check.{DueForPlan, check_conditions, multiplier_bound, plan_cost}
-use Rattle.check_command.specs.CheckProof.{DueForConditions, DueForProofFile, DueForProofTold, descent_conditions, refutation_conditions}
 use Rattle.check_command.proofs.OutcomeLaws.{pass-after}
 use Rattle.check_command.proofs.RowContents.{conditions_by, same-bound, same-contents, same-direction, same-multipliers, same-plan}
 

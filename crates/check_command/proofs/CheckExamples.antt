@@ -1,14 +1,7 @@
 -- What `check` prints, computed on examples.
-use Rattle.std.proofs.Common.{◌≡◌, pos, Some, None, refl}
-use Rattle.std.specs.Prelude.{codes}
-use Rattle.std.specs.Fmt.{digits}
-use Rattle.exact_num.specs.Rational.{Rational, whole}
+use Rattle.check_command.proofs.Common.{◌≡◌, pos, Some, None, refl, codes, digits, Rational, whole, new_capacity, WrongMultiplier, WrongSign, two_regions, accepted_text, rejected_line}
 use Rattle.row_core.specs.Names.{caa2}
-use Rattle.named_equations.specs.Variables.{new_capacity}
 use Rattle.scaled_decimals.specs.PrintedFraction.{fraction_text}
-use Rattle.certificate_checker.specs.declared.verdicts.Rejection.TheVariants.{WrongMultiplier, WrongSign}
-use Rattle.command_answers.proofs.LineExamples.{two_regions}
-use Rattle.check_command.specs.CheckLines.{accepted_text, rejected_line}
 
 abbrev third : Rational
 third = record { top = pos 1; bottom = pos 3 }

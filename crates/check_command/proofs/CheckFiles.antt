@@ -1,19 +1,5 @@
 -- What the files of `check` tell, over the rows of a book and over the named equations.
-use Rattle.std.proofs.Common.{◌≡◌, ℕ, inl, inr, Bool, true, false, List, [], ◌∷◌, map, Some, refl, ap₂, sym, subst, cond}
-use Rattle.std.proofs.lemmas.Option.{same_Some}
-use Rattle.std.specs.List.{AllByRecursion, find}
-use Rattle.model_sets.specs.Data.{Data}
-use Rattle.model_sets.specs.Members.{SetLists}
-use Rattle.row_core.specs.declared.Row.{Row}
-use Rattle.row_core.specs.declared.RowName.{RowName}
-use Rattle.row_core.specs.declared.Var.{Var}
-use Rattle.row_book.specs.Books.{AreRowsOf}
-use Rattle.plan_files.specs.declared.faults.PlanFault.{PlanFault}
-use Rattle.plan_files.specs.declared.faults.PlanFault.TheVariants.{BadRecord, UnknownVar, Twice, BadValue, Missing}
-use Rattle.plan_files.specs.Answers.{BreaksAtRecord, BreaksFirst, IsPlanFault}
-use Rattle.plan_files.specs.Files.{Fields}
-use Rattle.plan_files.specs.Listed.{IsListedVariable, name_of_row}
-use Rattle.command_answers.specs.PlacesWithin.{FaultIsWithin, IsVariableOfSets}
+use Rattle.check_command.proofs.Common.{◌≡◌, ℕ, inl, inr, Bool, true, false, List, [], ◌∷◌, map, Some, refl, ap₂, sym, subst, cond, same_Some, AllByRecursion, find, Data, SetLists, Row, RowName, Var, AreRowsOf, PlanFault, BadRecord, UnknownVar, Twice, BadValue, Missing, BreaksAtRecord, BreaksFirst, IsPlanFault, Fields, IsListedVariable, name_of_row, FaultIsWithin, IsVariableOfSets}
 
 -- ---- the names in a fault can be written
 

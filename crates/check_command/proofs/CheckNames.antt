@@ -1,26 +1,5 @@
 -- The rows and variables of which `check` speaks are those of the sets, so their names can be written.
-use Rattle.std.proofs.Common.{◌≡◌, ◌⊎◌, ℕ, inl, inr, Bool, true, false, if◌then◌else◌, List, [], ◌∷◌, Some, refl, sym, ◌∙◌, subst}
-use Rattle.std.proofs.lemmas.Option.{same_Some}
-use Rattle.std.specs.List.{AllByRecursion}
-use Rattle.exact_num.specs.Rational.{Rational}
-use Rattle.model_sets.specs.Members.{SetLists}
-use Rattle.row_core.specs.declared.Row.{Row}
-use Rattle.row_core.specs.declared.RowName.{RowName}
-use Rattle.row_core.specs.declared.Var.{Var}
-use Rattle.row_core.specs.declared.place.Place.{Place}
-use Rattle.row_core.specs.Order.{var_cmp, row_name_cmp}
-use Rattle.row_core.specs.Plans.{value_in}
-use Rattle.row_book.specs.Books.{HasNameWithin, IsWithinSets}
-use Rattle.row_book.proofs.Lists.{AllByRecursion-append, AllByRecursion-map, AllByRecursion-weaker}
-use Rattle.certificate_checker.specs.declared.verdicts.Rejection.{Rejection}
-use Rattle.certificate_checker.specs.Conditions.{Condition, FailsFor, IsWideAt, first_failing, steps}
-use Rattle.certificate_checker.specs.Costs.{model_cost}
-use Rattle.certificate_checker.specs.Gaps.{gap_condition}
-use Rattle.certificate_checker.specs.MultiplierChecks.{bound_conditions, column_condition, multiplier_condition}
-use Rattle.certificate_checker.specs.PlanChecks.{plan_conditions, sign_condition}
-use Rattle.certificate_checker.specs.Reasons.{Reason, reason_of}
-use Rattle.command_answers.specs.PlacesWithin.{IsRowOfSets, PlaceIsWithin, ReasonIsWithin, RejectionIsWithin}
-use Rattle.command_answers.proofs.KeptPlaces.{AreFormedKept, steps-kept, wide-kept}
+use Rattle.check_command.proofs.Common.{◌≡◌, ◌⊎◌, ℕ, inl, inr, Bool, true, false, if◌then◌else◌, List, [], ◌∷◌, Some, refl, sym, ◌∙◌, subst, same_Some, AllByRecursion, Rational, SetLists, Row, RowName, Var, Place, var_cmp, row_name_cmp, value_in, HasNameWithin, IsWithinSets, AllByRecursion-append, AllByRecursion-map, AllByRecursion-weaker, Rejection, Condition, FailsFor, IsWideAt, first_failing, steps, model_cost, gap_condition, bound_conditions, column_condition, multiplier_condition, plan_conditions, sign_condition, Reason, reason_of, IsRowOfSets, PlaceIsWithin, ReasonIsWithin, RejectionIsWithin, AreFormedKept, steps-kept, wide-kept}
 
 -- ---- conditions
 

@@ -1,24 +1,9 @@
 -- What is due for an outcome, and what is worth an optimum that is accepted.
-use Rattle.std.proofs.Common.{◌≡◌, ℕ, inl, inr, List, Option, Some, None, refl, ap, ap₂, sym, ◌∙◌}
+use Rattle.check_command.proofs.Common.{◌≡◌, ℕ, inl, inr, List, Option, Some, None, refl, ap, ap₂, sym, ◌∙◌, Rational, Data, SetLists, Row, RowName, Var, Accepted, Rejected, Wide, Optimum, HasWorth, Status, Done, DueForPlan, bound_and_gap, accepted_text, rejected_line, IsOutcome, TellsBound, TellsOutcome, bound_values, worth_of, uncertified_line}
 use Rattle.std.specs.Option.{option_map}
-use Rattle.exact_num.specs.Rational.{Rational}
-use Rattle.model_sets.specs.Data.{Data}
-use Rattle.model_sets.specs.Members.{SetLists}
-use Rattle.row_core.specs.declared.Row.{Row}
-use Rattle.row_core.specs.declared.RowName.{RowName}
-use Rattle.row_core.specs.declared.Var.{Var}
 use Rattle.check_command.specs.declared.outcome.Bound.{Bound}
 use Rattle.check_command.specs.declared.outcome.Outcome.{Outcome}
-use Rattle.check_command.specs.declared.outcome.Outcome.TheVariants.{Accepted, Rejected, Wide}
-use Rattle.proof_files.specs.declared.proof.Proof.TheVariants.{Optimum}
-use Rattle.command_answers.specs.ShownProofs.{HasWorth}
-use Rattle.command_answers.specs.declared.status.Status.{Status}
-use Rattle.command_answers.specs.declared.status.Status.TheVariants.{Done}
 use Rattle.simplex_core.specs.declared.stops.Stop.TheVariants.{Width}
-use Rattle.check_command.specs.Check.{DueForPlan, bound_and_gap}
-use Rattle.check_command.specs.CheckLines.{accepted_text, rejected_line}
-use Rattle.check_command.specs.CheckOutcomes.{IsOutcome, TellsBound, TellsOutcome, bound_values, worth_of}
-use Rattle.command_answers.specs.Lines.{uncertified_line}
 
 bounds-told : (d : Data) (rows : List Row) (plan : List (Var × Rational)) (multipliers : Option (List (RowName × Rational))) (bound : Option Bound) → TellsBound d rows plan multipliers bound
     → option_map bound_values bound ≡ option_map (bound_and_gap d rows plan) multipliers

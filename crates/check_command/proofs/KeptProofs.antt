@@ -1,31 +1,12 @@
 -- A proof that is kept where the answer to it is that it is accepted, and the answer where it isn't.
-use Rattle.std.proofs.Common.{◌≡◌, ◌≢◌, ℕ, List, [], ◌∷◌, inr, Result, Ok, Err, sym, subst}
-use Rattle.std.specs.Prelude.{MatchResult}
-use Rattle.std.specs.List.{AllByRecursion}
-use Rattle.exact_num.specs.Rational.{Rational}
-use Rattle.model_sets.specs.Data.{Data}
-use Rattle.model_sets.specs.Members.{SetLists}
-use Rattle.row_core.specs.declared.Row.{Row}
-use Rattle.row_core.specs.declared.RowName.{RowName}
-use Rattle.row_core.specs.declared.Var.{Var}
+use Rattle.check_command.proofs.Common.{◌≡◌, ◌≢◌, ℕ, List, [], ◌∷◌, inr, Result, Ok, Err, sym, subst, MatchResult, AllByRecursion, Rational, Data, SetLists, Row, RowName, Var, all_variables, instances, Fields, records_of, IsListedVariable, Proof, Optimum, Refutation, Descent, IsProof, HasWorth, Status, Done, DueForProofTold}
 use Rattle.row_core.specs.NameTexts.{VariableIsWithin}
 use Rattle.row_core.specs.Numbers.{keys_of}
-use Rattle.named_equations.specs.Existence.{all_variables}
-use Rattle.named_equations.specs.Instances.{instances}
-use Rattle.plan_files.specs.Files.{Fields, records_of}
-use Rattle.plan_files.specs.Listed.{IsListedVariable}
-use Rattle.proof_files.specs.declared.proof.Proof.{Proof}
-use Rattle.proof_files.specs.declared.proof.Proof.TheVariants.{Optimum, Refutation, Descent}
 use Rattle.proof_files.specs.PlansWithin.{HasPlanWithin}
-use Rattle.proof_files.specs.Proofs.{IsProof}
 use Rattle.command_answers.specs.declared.answer.Answer.{Answer}
 use Rattle.command_answers.specs.declared.proved.AcceptedProof.{AcceptedProof}
-use Rattle.command_answers.specs.ShownProofs.{HasWorth}
-use Rattle.command_answers.specs.declared.status.Status.{Status}
-use Rattle.command_answers.specs.declared.status.Status.TheVariants.{Done}
 use Rattle.check_command.specs.declared.proof.Judged.{Judged}
 use Rattle.check_command.specs.AcceptedProofs.{TellsProof}
-use Rattle.check_command.specs.CheckProof.{DueForProofTold}
 
 -- ---- the plan of a proof is one of the sets
 

@@ -1,3 +1,4 @@
+pub mod Common
 pub mod AcceptedProofs
 mod CheckExamples
 mod CheckFiles

@@ -1,34 +1,9 @@
 -- From the verdicts of the checks over a book of rows to what they come to over the named equations.
-use Rattle.std.proofs.Common.{inr, inl, ◌⊎◌, ◌≡◌, ℕ, ℤ, pos, List, [], ◌∷◌, ◌++◌, Option, Some, None, ap, ap₂, sym, ◌∙◌, subst, refl}
-use Rattle.exact_num.specs.Rational.{Rational, minus}
-use Rattle.exact_num.specs.Value.{value_of}
+use Rattle.check_command.proofs.Common.{inr, inl, ◌⊎◌, ◌≡◌, ℕ, ℤ, pos, List, [], ◌∷◌, ◌++◌, Option, Some, None, ap, ap₂, sym, ◌∙◌, subst, refl, Rational, minus, value_of, Data, Row, RowName, Var, Place, var_cmp, value_in, all_variables, Rejection, BoundsAll, Condition, AllPass, FailsFor, IsWideAt, first_failing, steps, cost_of, cost_value, model_cost, AreOverSome, Within, gap_condition, bound_conditions, plan_conditions, Reason, reason_of, fails_before, passed_first, passes_all, wide_before, Accepted, Rejected, Wide, multiplier_bound, plan_cost, AreFeasible, AreNotFeasible, BoundsFeasible, IsBookOf, IsCheckedBound, IsCheckedPlan, IsOutcome, are-feasible, bounds-feasible, rows-from_feasible, vars-are}
 use Rattle.exact_num.specs.Steps.{first_wide}
 use Rattle.exact_num.specs.declared.fraction.Frac.{Frac}
-use Rattle.model_sets.specs.Data.{Data}
-use Rattle.row_core.specs.declared.Row.{Row}
-use Rattle.row_core.specs.declared.RowName.{RowName}
-use Rattle.row_core.specs.declared.Var.{Var}
-use Rattle.row_core.specs.declared.place.Place.{Place}
-use Rattle.row_core.specs.Order.{var_cmp}
-use Rattle.row_core.specs.Plans.{value_in}
 use Rattle.row_core.specs.Values.{IsOver}
-use Rattle.named_equations.specs.Existence.{all_variables}
-use Rattle.certificate_checker.specs.declared.verdicts.Rejection.{Rejection}
-use Rattle.certificate_checker.specs.Certificates.{BoundsAll}
-use Rattle.certificate_checker.specs.Conditions.{Condition, AllPass, FailsFor, IsWideAt, first_failing, steps}
-use Rattle.certificate_checker.specs.Costs.{cost_of, cost_value, model_cost}
-use Rattle.certificate_checker.specs.Denominators.{AreOverSome}
-use Rattle.certificate_checker.specs.Gaps.{Within, gap_condition}
-use Rattle.certificate_checker.specs.MultiplierChecks.{bound_conditions}
-use Rattle.certificate_checker.specs.PlanChecks.{plan_conditions}
 use Rattle.certificate_checker.specs.Plans.{AreValuesOver, MeetsAll}
-use Rattle.certificate_checker.specs.Reasons.{Reason, reason_of}
-use Rattle.certificate_checker.proofs.ConditionLaws.{fails_before, passed_first, passes_all, wide_before}
-use Rattle.check_command.specs.declared.outcome.Outcome.TheVariants.{Accepted, Rejected, Wide}
-use Rattle.check_command.specs.Check.{check_conditions, multiplier_bound, plan_cost}
-use Rattle.command_answers.specs.CheckedPlans.{AreFeasible, AreNotFeasible, BoundsFeasible, IsBookOf}
-use Rattle.check_command.specs.CheckOutcomes.{IsCheckedBound, IsCheckedPlan, IsOutcome}
-use Rattle.command_answers.proofs.CheckedRows.{are-feasible, bounds-feasible, rows-from_feasible, vars-are}
 
 module _ (places : ℕ) (d : Data) (rows : List Row) (vars : List Var) (book : IsBookOf places d rows vars) where
   -- the variables of the book are those of the data
@@ -102,17 +77,6 @@ of_bound d rows multipliers = bound_conditions model_cost rows (all_variables d)
 abbrev pub of_gap : Data → List Row → List (Var × Rational) → List (RowName × Rational) → ℕ → List Condition
 of_gap d rows plan multipliers gap = gap_condition (plan_cost d plan) (multiplier_bound rows multipliers) gap ∷ []
 
--- the plan's are the first
-pub plan-fails : (d : Data) (rows : List Row) (plan : List (Var × Rational)) (multipliers : Option (List (RowName × Rational))) (gap : ℕ) (reason : Reason)
-    → FailsFor (of_plan d rows plan) reason → FailsFor (check_conditions d rows plan multipliers gap) reason
-plan-fails d rows plan None gap reason h = h
-plan-fails d rows plan (Some multipliers) gap reason h = fails-first (of_plan d rows plan) (of_bound d rows multipliers ++ of_gap d rows plan multipliers gap) reason h
-
-pub plan-wide : (d : Data) (rows : List Row) (plan : List (Var × Rational)) (multipliers : Option (List (RowName × Rational))) (gap : ℕ) (place : Place)
-    → IsWideAt (of_plan d rows plan) place → IsWideAt (check_conditions d rows plan multipliers gap) place
-plan-wide d rows plan None gap place h = h
-plan-wide d rows plan (Some multipliers) gap place h = wide_before (of_plan d rows plan) (of_bound d rows multipliers ++ of_gap d rows plan multipliers gap) place h
-
 module _ (places : ℕ) (d : Data) (rows : List Row) (plan : List (Var × Rational)) (cost : Rational) (checked : IsCheckedPlan places d rows plan cost) (multipliers : List (RowName × Rational)) (gap : ℕ) where
   abbrev later : List Condition
   later = of_bound d rows multipliers ++ of_gap d rows plan multipliers gap
@@ -158,8 +122,3 @@ module _ (places : ℕ) (d : Data) (rows : List Row) (plan : List (Var × Ration
       amount_is ∙ checked.cost_is,
       (found_is ∙ bounded.bound_is, gap_is ∙ ap₂ minus checked.cost_is bounded.bound_is),
     )
-
--- without multipliers, the plan's conditions are all
-pub plan-passes : (places : ℕ) (d : Data) (rows : List Row) (plan : List (Var × Rational)) (gap : ℕ) (amount : Frac) → IsCheckedPlan places d rows plan (value_of amount)
-    → IsOutcome places d rows plan None gap (Accepted amount None)
-plan-passes places d rows plan gap amount checked = (checked.pass, checked.feasible, tt, checked.cost_is, tt)

@@ -1,13 +1,5 @@
 -- What `check` prints of a proof, computed on examples.
-use Rattle.std.proofs.Common.{◌≡◌, refl}
-use Rattle.std.specs.Prelude.{codes}
-use Rattle.std.specs.Fmt.{digits}
-use Rattle.named_equations.specs.Variables.{new_capacity}
-use Rattle.certificate_checker.specs.declared.verdicts.Rejection.TheVariants.{NotNegative, NotPositive}
-use Rattle.plan_files.specs.declared.faults.PlanFault.TheVariants.{Missing, Twice}
-use Rattle.command_answers.proofs.LineExamples.{two_regions}
-use Rattle.command_answers.specs.PlanFaultLines.{proof_fault_line}
-use Rattle.check_command.specs.CheckLines.{rejected_line}
+use Rattle.check_command.proofs.Common.{◌≡◌, refl, codes, digits, new_capacity, NotNegative, NotPositive, Missing, Twice, two_regions, proof_fault_line, rejected_line}
 
 not_negative : rejected_line two_regions NotNegative ≡ codes "rejected not negative\n"
 not_negative = refl

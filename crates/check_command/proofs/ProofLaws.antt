@@ -1,41 +1,8 @@
 -- From the verdicts of the checks of a proof over a book of rows to what they are worth over the named equations.
-use Rattle.std.proofs.Common.{◌≡◌, ℕ, ℤ, List, ◌++◌, inl, inr, ap, sym, ◌∙◌, subst}
-use Rattle.std.specs.List.{AllByRecursion}
-use Rattle.exact_num.specs.Rational.{Rational}
-use Rattle.model_sets.specs.Data.{Data}
-use Rattle.model_sets.specs.Members.{SetLists}
-use Rattle.row_core.specs.declared.Row.{Row}
-use Rattle.row_core.specs.declared.RowName.{RowName}
-use Rattle.row_core.specs.declared.Var.{Var}
-use Rattle.row_core.specs.declared.place.Place.{Place}
-use Rattle.plan_files.specs.declared.faults.PlanFault.{PlanFault}
-use Rattle.plan_files.specs.Files.{Fields}
-use Rattle.plan_files.specs.Listed.{IsListedVariable}
-use Rattle.proof_files.specs.Proofs.{IsProofFault}
+use Rattle.check_command.proofs.Common.{◌≡◌, ℕ, ℤ, List, ◌++◌, inl, inr, ap, sym, ◌∙◌, subst, AllByRecursion, Rational, Data, SetLists, Row, RowName, Var, Place, PlanFault, Fields, IsListedVariable, IsProofFault, Rejection, Violates, WrongSign, WrongMultiplier, Column, NotNegative, NotPositive, GapPassed, Verdict, Yes, No, Width, AdmitsNone, CostsLess, AllPass, Condition, FailsFor, IsWideAt, model_cost, infeasible_conditions, direction_conditions, plan_conditions, reason_of, IsVerdict, OnYes, wide_before, Status, uncertified_line, AreFeasible, IsBookOf, NoneIsFeasible, FaultIsWithin, RejectionIsWithin, none-feasible, vars-are, CanBeSaid, rejected_line, plan_cost, DueForConditions, IsEndless, descent_conditions, refutation_conditions, IsJudged, TellsVerdict}
 use Rattle.proof_files.specs.ProofRecords.{proof_names}
-use Rattle.certificate_checker.specs.declared.verdicts.Rejection.{Rejection}
-use Rattle.certificate_checker.specs.declared.verdicts.Rejection.TheVariants.{Violates, WrongSign, WrongMultiplier, Column, NotNegative, NotPositive, GapPassed}
-use Rattle.certificate_checker.specs.declared.verdicts.Verdict.{Verdict}
-use Rattle.certificate_checker.specs.declared.verdicts.Verdict.TheVariants.{Yes, No, Width}
-use Rattle.certificate_checker.specs.Certificates.{AdmitsNone, CostsLess}
-use Rattle.certificate_checker.specs.Conditions.{AllPass, Condition, FailsFor, IsWideAt}
-use Rattle.certificate_checker.specs.Costs.{model_cost}
-use Rattle.certificate_checker.specs.MultiplierChecks.{infeasible_conditions}
-use Rattle.certificate_checker.specs.PlanChecks.{direction_conditions, plan_conditions}
-use Rattle.certificate_checker.specs.Reasons.{reason_of}
-use Rattle.certificate_checker.specs.Verdicts.{IsVerdict, OnYes}
-use Rattle.certificate_checker.proofs.ConditionLaws.{wide_before}
 use Rattle.simplex_core.specs.declared.stops.Stop.TheVariants as stops
-use Rattle.command_answers.specs.declared.status.Status.{Status}
-use Rattle.command_answers.specs.Lines.{uncertified_line}
-use Rattle.command_answers.specs.CheckedPlans.{AreFeasible, IsBookOf, NoneIsFeasible}
-use Rattle.command_answers.specs.PlacesWithin.{FaultIsWithin, RejectionIsWithin}
-use Rattle.command_answers.proofs.CheckedRows.{none-feasible, vars-are}
 use Rattle.command_answers.proofs.SolvedRows.{no-least}
-use Rattle.check_command.specs.CheckLines.{CanBeSaid, rejected_line}
-use Rattle.check_command.specs.Check.{plan_cost}
-use Rattle.check_command.specs.CheckProof.{DueForConditions, IsEndless, descent_conditions, refutation_conditions}
-use Rattle.check_command.specs.ProofVerdicts.{IsJudged, TellsVerdict}
 use Rattle.check_command.proofs.CheckFiles.{first-within, found-within}
 use Rattle.check_command.proofs.OutcomeLaws.{fails-after, fails-first, pass-after, wide-after}
 

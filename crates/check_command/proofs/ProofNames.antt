@@ -1,28 +1,5 @@
 -- The rows and variables of which `check` of a proof speaks are those of the sets, so their names can be written.
-use Rattle.std.proofs.Common.{◌≡◌, Bool, true, false, if◌then◌else◌, List, [], ◌∷◌, Some, subst}
-use Rattle.std.proofs.lemmas.Option.{same_Some}
-use Rattle.std.specs.List.{AllByRecursion}
-use Rattle.exact_num.specs.Rational.{Rational}
-use Rattle.model_sets.specs.Members.{SetLists}
-use Rattle.row_core.specs.declared.Row.{Row}
-use Rattle.row_core.specs.declared.RowName.{RowName}
-use Rattle.row_core.specs.declared.Var.{Var}
-use Rattle.row_core.specs.Order.{var_cmp, row_name_cmp}
-use Rattle.row_core.specs.Plans.{value_in}
-use Rattle.row_book.specs.Books.{HasNameWithin, IsWithinSets}
-use Rattle.row_book.proofs.Lists.{AllByRecursion-append, AllByRecursion-map, AllByRecursion-weaker}
-use Rattle.certificate_checker.specs.declared.verdicts.Verdict.{Verdict}
-use Rattle.certificate_checker.specs.declared.verdicts.Verdict.TheVariants.{Yes, No, Width}
-use Rattle.certificate_checker.specs.Conditions.{Condition, first_failing, steps}
-use Rattle.certificate_checker.specs.Costs.{model_cost, no_cost}
-use Rattle.certificate_checker.specs.MultiplierChecks.{column_condition, infeasible_conditions, multiplier_condition}
-use Rattle.certificate_checker.specs.PlanChecks.{direction_conditions, plan_conditions, sign_condition}
-use Rattle.certificate_checker.specs.Reasons.{Reason, reason_of}
-use Rattle.certificate_checker.specs.Verdicts.{IsVerdict}
-use Rattle.command_answers.specs.PlacesWithin.{IsRowOfSets}
-use Rattle.command_answers.proofs.KeptPlaces.{AreFormedKept, steps-kept, wide-kept}
-use Rattle.check_command.specs.CheckLines.{ReasonCanBeSaid}
-use Rattle.check_command.specs.ProofVerdicts.{VerdictIsWithin}
+use Rattle.check_command.proofs.Common.{◌≡◌, Bool, true, false, if◌then◌else◌, List, [], ◌∷◌, Some, subst, same_Some, AllByRecursion, Rational, SetLists, Row, RowName, Var, var_cmp, row_name_cmp, value_in, HasNameWithin, IsWithinSets, AllByRecursion-append, AllByRecursion-map, AllByRecursion-weaker, Verdict, Yes, No, Width, Condition, first_failing, steps, model_cost, no_cost, column_condition, infeasible_conditions, multiplier_condition, direction_conditions, plan_conditions, sign_condition, Reason, reason_of, IsVerdict, IsRowOfSets, AreFormedKept, steps-kept, wide-kept, ReasonCanBeSaid, VerdictIsWithin}
 
 module _ (sets : SetLists) where
   -- what is computed is at places of the sets, and what is said where the condition fails can be written

@@ -1,29 +1,13 @@
 -- What is looked at of rows depends on what they say alone, so rows of the same instances pass alike.
-use Rattle.std.proofs.Common.{◌≡◌, ℕ, ℤ, pos, Bool, true, List, [], ◌∷◌, ◌++◌, map, filter, refl, ap, ap₂, sym, ◌∙◌}
-use Rattle.std.specs.Prelude.{int_lt}
-use Rattle.std.specs.List.{flat_map}
+use Rattle.check_command.proofs.Common.{◌≡◌, ℕ, ℤ, pos, Bool, true, List, [], ◌∷◌, ◌++◌, map, filter, refl, ap, ap₂, sym, ◌∙◌, int_lt, flat_map, Rational, minus, order_of, whole, Data, Row, RowName, Var, RowContents, contents_of, var_cmp, value_in, AreRowsOf, Condition, formed_at, cost_entries, cost_value, total, total_formed, bound_value, column_condition, is_signed, is_within, multiplier_condition, right_sides, absolute, direction_conditions, plan_conditions, sign_condition, column_off, cost_not_negative, row_missed, sum_not_positive, wrongly_signed}
 use Rattle.std.specs.Ordering.{is_eq}
-use Rattle.exact_num.specs.Rational.{Rational, minus, order_of, whole}
 use Rattle.exact_num.specs.Formed.{difference_formed}
-use Rattle.model_sets.specs.Data.{Data}
-use Rattle.row_core.specs.declared.Row.{Row}
-use Rattle.row_core.specs.declared.RowName.{RowName}
 use Rattle.row_core.specs.declared.Sense.{Sense}
-use Rattle.row_core.specs.declared.Var.{Var}
 use Rattle.row_core.specs.declared.place.Place.TheVariants.{Check, Column, SumBound, SumCost}
 use Rattle.row_core.specs.Columns.{column_of}
-use Rattle.row_core.specs.Contents.{RowContents, contents_of}
 use Rattle.row_core.specs.Evaluated.{evaluated, evaluated_formed}
 use Rattle.row_core.specs.Kinds.{kind_is_free}
-use Rattle.row_core.specs.Order.{var_cmp}
-use Rattle.row_core.specs.Plans.{value_in}
 use Rattle.row_core.specs.Statements.{stands}
-use Rattle.row_book.specs.Books.{AreRowsOf}
-use Rattle.certificate_checker.specs.Conditions.{Condition, formed_at}
-use Rattle.certificate_checker.specs.Costs.{cost_entries, cost_value, total, total_formed}
-use Rattle.certificate_checker.specs.MultiplierChecks.{bound_value, column_condition, is_signed, is_within, multiplier_condition, right_sides}
-use Rattle.certificate_checker.specs.PlanChecks.{absolute, direction_conditions, plan_conditions, sign_condition}
-use Rattle.certificate_checker.specs.Reasons.{column_off, cost_not_negative, row_missed, sum_not_positive, wrongly_signed}
 
 -- ---- rows of the same instances say the same
 

@@ -1,17 +1,7 @@
 -- A text is accepted with one model's data, or refused by one line.
-use Rattle.std.proofs.Common.{◌≡◌, ℕ, inl, inr, List, Option, Some, None, ap, sym, ◌∙◌}
-use Rattle.mathprog_data.specs.Meaning.{Blocks}
-use Rattle.mathprog_data.specs.Verdicts.{FaultAt, Says}
+use Rattle.command_answers.proofs.Common.{◌≡◌, ℕ, inl, inr, List, Option, Some, None, ap, sym, ◌∙◌, Blocks, FaultAt, Says, Data, data_told, canonical, first_refusal, first_set_refusal, Status, Accepted, set_line, data_line}
 use Rattle.mathprog_data.specs.declared.blocks.Mark.{Mark}
-use Rattle.model_sets.specs.Data.{Data}
-use Rattle.param_tables.specs.BlockData.{data_told}
-use Rattle.param_tables.specs.Canonical.{canonical}
-use Rattle.param_tables.specs.Refusals.{first_refusal}
-use Rattle.param_tables.specs.SetRefusals.{first_set_refusal}
-use Rattle.command_answers.specs.declared.status.Status.{Status}
-use Rattle.command_answers.specs.Accepted.{Accepted}
 use Rattle.command_answers.specs.NotAccepted.{DueWhereNotAccepted, RefusesBlocks}
-use Rattle.command_answers.specs.RefusalLines.{set_line, data_line}
 
 -- what the laws of the reader say
 pub record ReaderLaws : Type 0 where

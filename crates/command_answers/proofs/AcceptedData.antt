@@ -6,8 +6,7 @@ use Rattle.model_sets.specs.Members.{AreSets, KeepsRules, SetLists, first_refusa
 use Rattle.model_sets.proofs.SetLaws.{IsTaken, appended_keeps, taken}
 use Rattle.mathprog_data.proofs.ReadingLaws.{says_well}
 use Rattle.param_tables.specs.InTurn.{first_of}
-use Rattle.param_tables.specs.Refusals.{first_refusal}
-use Rattle.param_tables.specs.SetRefusals.{fault_in, first_set_refusal, member_refusals, only, refusal_after}
+use Rattle.command_answers.proofs.Common.{first_refusal, fault_in, first_set_refusal, member_refusals, only, refusal_after}
 use Rattle.param_tables.proofs.KeptLaws.{complete_canonical, complete_of, values_are_numbers}
 use Rattle.param_tables.proofs.SetLaws.{members-set}
 use Rattle.param_tables.proofs.TurnLaws.{in_turn_from, in_turn_more}

@@ -1,10 +1,5 @@
 -- The text of a whole small model is accepted: it says its blocks, and neither their sets nor their data are refused.
-use Rattle.std.proofs.Common.{[], ◌∷◌, ◌++◌, map, false, refl, arith}
-use Rattle.std.specs.Fmt.{digits}
-use Rattle.std.specs.List.{enumerate_from}
-use Rattle.model_sets.specs.Data.{Data}
-use Rattle.param_tables.specs.Canonical.{defaults_in_order, given_in_order}
-use Rattle.command_answers.specs.Accepted.{Accepted}
+use Rattle.command_answers.proofs.Common.{[], ◌∷◌, ◌++◌, map, false, refl, arith, digits, enumerate_from, Data, defaults_in_order, given_in_order, Accepted}
 use Rattle.command_answers.proofs.AcceptedText.{text, members, values, blocks, says}
 
 -- its data

@@ -1,14 +1,8 @@
 -- The text of a whole small model, and that it says its blocks.
-use Rattle.std.proofs.Common.{ℕ, ◌*◌, ◌^◌, List, [], ◌∷◌, ◌++◌, map, pos, neg_ℤ, Some, refl}
-use Rattle.std.specs.List.{enumerate_from}
+use Rattle.command_answers.proofs.Common.{ℕ, ◌*◌, ◌^◌, List, [], ◌∷◌, ◌++◌, map, pos, neg_ℤ, Some, refl, enumerate_from, Blocks, reading, set_word, param_word, Says}
 use Rattle.std.specs.Prelude.{ℤ, codes}
 use Rattle.scaled_decimals.specs.DecimalReading.{numerator, denominator}
 use Rattle.scaled_decimals.specs.Digits.{number_of}
-use Rattle.mathprog_data.specs.Meaning.{Blocks}
-use Rattle.mathprog_data.specs.NumberReading.{reading}
-use Rattle.model_sets.specs.Names.{set_word}
-use Rattle.model_sets.specs.Params.{param_word}
-use Rattle.mathprog_data.specs.Verdicts.{Says}
 use Rattle.command_answers.proofs.DefaultTexts.{Line, SetLine, DefaultLine, AreFit, AreNew, IsSection, section_says}
 
 -- ---- the text

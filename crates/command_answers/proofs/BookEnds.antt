@@ -1,12 +1,7 @@
 -- What stopped the book of rows is told by its answer.
-use Rattle.std.proofs.Common.{◌≡◌, ◌⊎◌, ℕ, List, inl, inr}
-use Rattle.model_sets.specs.Data.{Data}
-use Rattle.model_sets.specs.Members.{SetLists}
-use Rattle.named_equations.specs.Instances.{instances}
-use Rattle.row_book.specs.Books.{HasStopped}
+use Rattle.command_answers.proofs.Common.{◌≡◌, ◌⊎◌, ℕ, List, inl, inr, Data, SetLists, instances, HasStopped, Status}
 use Rattle.row_book.specs.declared.fail.BookFail.{BookFail}
 use Rattle.row_book.specs.declared.fail.BookFail.TheVariants as fails
-use Rattle.command_answers.specs.declared.status.Status.{Status}
 use Rattle.command_answers.specs.BookFails.{TellsFail}
 use Rattle.command_answers.specs.MadeRows.{IsTooLarge, IsUncertified}
 

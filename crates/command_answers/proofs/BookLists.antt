@@ -1,14 +1,6 @@
 -- What is said of the lists of a problem is said of those of the book that it is made of; and how the exact method ends on a book of which something is left.
-use Rattle.std.proofs.Common.{◌≡◌, ℕ, List, Option, Some, None}
-use Rattle.exact_num.specs.Steps.{first_wide}
-use Rattle.row_core.specs.declared.Row.{Row}
-use Rattle.row_core.specs.declared.Var.{Var}
-use Rattle.row_core.specs.declared.place.Place.{Place}
-use Rattle.written_method.specs.Eliminated.{elimination_steps}
-use Rattle.certified_answers.specs.declared.costs.Cost.TheVariants.{Model}
-use Rattle.exact_solver.specs.MethodEnds.{IsWide, method_end, solved_end}
+use Rattle.command_answers.proofs.Common.{◌≡◌, ℕ, List, Option, Some, None, first_wide, Row, Var, Place, elimination_steps, Model, IsWide, method_end, solved_end, definers}
 use Rattle.command_answers.specs.BookMethods.{method_end as book_end}
-use Rattle.command_answers.specs.Definers.{definers}
 
 module _ (P : List Row → List (Option Var) → List Var → Type 0) {rows book_rows : List Row} {defs book_defs : List (Option Var)} {vars book_vars : List Var} where
   pub of-book : rows ≡ book_rows → defs ≡ book_defs → vars ≡ book_vars → P rows defs vars → P book_rows book_defs book_vars

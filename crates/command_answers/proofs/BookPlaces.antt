@@ -1,31 +1,9 @@
 -- A row of a book defines variables of the book alone: so the place at which the exact method stops on it can be named, and so can what a solution has.
-use Rattle.std.proofs.Common.{◌≡◌, ◌≢◌, ℕ, ℤ, pos, ◌<ℤ◌, List, [], ◌∷◌, Some, sym, subst, arith}
-use Rattle.std.proofs.lemmas.Int.{ints}
-use Rattle.std.specs.List.{AllByRecursion}
-use Rattle.exact_num.specs.Rational.{Rational}
-use Rattle.model_sets.specs.Members.{SetLists}
-use Rattle.row_core.specs.declared.Row.{Row}
-use Rattle.row_core.specs.declared.RowName.{RowName}
-use Rattle.row_core.specs.declared.Var.{Var}
-use Rattle.row_core.specs.declared.place.Place.{Place}
-use Rattle.row_core.specs.Equations.{IsEquation}
-use Rattle.row_core.specs.Kinds.{IsKind}
+use Rattle.command_answers.proofs.Common.{◌≡◌, ◌≢◌, ℕ, ℤ, pos, ◌<ℤ◌, List, [], ◌∷◌, Some, sym, subst, arith, ints, AllByRecursion, Rational, SetLists, Row, RowName, Var, Place, IsEquation, IsKind, keys_of, variables_of, number_at, Contains-from_Has, Has, Has-flat_map, Has-from_Contains, names_of, HasNameWithin, IsWithinSets, IsBook, AllByRecursion-map, all-from, all-has, definer, IsWide, AreNamedIn, IsListedBook, IsRowOfSets, PlaceIsWithin}
 use Rattle.row_core.specs.NameTexts.{RowNameIsWithin, VariableIsWithin}
-use Rattle.row_core.specs.Numbers.{keys_of, variables_of}
-use Rattle.row_core.specs.Rows.{number_at}
-use Rattle.row_core.proofs.Members.{Contains-from_Has, Has, Has-flat_map, Has-from_Contains}
-use Rattle.row_core.specs.RowLists.{names_of}
-use Rattle.row_book.specs.Books.{HasNameWithin, IsWithinSets}
-use Rattle.row_book.specs.Kept.{IsBook}
 use Rattle.row_book.proofs.Columns.{has-entry}
-use Rattle.row_book.proofs.Lists.{AllByRecursion-map, all-from, all-has}
-use Rattle.command_answers.specs.Definers.{definer}
-use Rattle.exact_solver.specs.MethodEnds.{IsWide}
 use Rattle.command_answers.specs.BookMethods.{method_end}
-use Rattle.certified_answers.specs.Answers.{AreNamedIn}
 use Rattle.command_answers.proofs.BookProblems.{placed}
-use Rattle.command_answers.specs.CheckedPlans.{IsListedBook}
-use Rattle.command_answers.specs.PlacesWithin.{IsRowOfSets, PlaceIsWithin}
 use Rattle.command_answers.proofs.ListedBooks.{rows-named, vars-named}
 use Rattle.command_answers.proofs.KeptPlaces.{DefinesKept, EndIsKept, end-kept}
 

@@ -1,40 +1,19 @@
 -- The rows of a book, with what each of them defines, are a problem: all that the solver asks for. A book says of its rows by their positions what a problem says of
 -- definitions one after another.
-use Rattle.std.proofs.Common.{◌≡◌, ◌≢◌, ℕ, suc, ◌+◌, ◌<◌, ℤ, pos, Bool, true, false, not, ◌&&◌, ◌||◌, List, [], ◌∷◌, ◌++◌, ◌⊎◌, inl, inr, length, get_or, take, nat_eq, nat_le, refl, sym, ap, ap₂, ◌∙◌, arith, eq-eqb, if◌then◌else◌}
+use Rattle.command_answers.proofs.Common.{◌≡◌, ◌≢◌, ℕ, suc, ◌+◌, ◌<◌, ℤ, pos, Bool, true, false, not, ◌&&◌, ◌||◌, List, [], ◌∷◌, ◌++◌, ◌⊎◌, inl, inr, length, get_or, take, nat_eq, nat_le, refl, sym, ap, ap₂, ◌∙◌, arith, eq-eqb, if◌then◌else◌, list_all, false_from_ne_true, leb-true, le-ltb, lt-ltb, ltb-true, ltb-false, or_cases, or_from, or_left, or_parts, or_right, ints, get_or_default, map-append, take_more, Row, RowName, Var, IsEquation, kind_is_free, ascends, variables_of, var_cmp, entry_variables, number_at, Contains-from_Has, Has, Has-flat_map, Has-from_Contains, var_cmp_exact, var_cmp_total, equation_numbers, subscripts_of, variable_of, trade, variable, IsBook, chosen-some, Definition, definitions_of, defined, is_among, others_of, rows_of, avoids, AreTriangular, cost_variable, is_column, definer, definers}
 use Rattle.std.specs.Prelude.{◌<ℤ◌, ◌≤ℤ◌, int_le, Option, Some, None, slice_get, Contains}
 use Rattle.std.specs.Cmp.Derive.{both_true}
-use Rattle.std.specs.List.{list_all}
 use Rattle.std.specs.Ordering.{is_eq, is_lt}
-use Rattle.std.proofs.lemmas.Bool.{false_from_ne_true, leb-true, le-ltb, lt-ltb, ltb-true, ltb-false, or_cases, or_from, or_left, or_parts, or_right}
-use Rattle.std.proofs.lemmas.Int.{ints}
-use Rattle.std.proofs.lemmas.List.{get_or_default, map-append, take_more}
 use lib.Dec.{ltb}
-use Rattle.row_core.specs.declared.Row.{Row}
-use Rattle.row_core.specs.declared.RowName.{RowName}
-use Rattle.row_core.specs.declared.Var.{Var}
 use Rattle.row_core.specs.declared.Sense.TheVariants.{Equal}
 use Rattle.row_core.specs.declared.kind_numbers.TheConstants.{RATE_OF_ACTIVITY, NEW_CAPACITY, TRADE}
-use Rattle.row_core.specs.Equations.{IsEquation}
-use Rattle.row_core.specs.Kinds.{kind_is_free}
-use Rattle.row_core.specs.Numbers.{ascends, variables_of}
-use Rattle.row_core.specs.Order.{var_cmp}
-use Rattle.row_core.specs.RowLists.{entry_variables}
-use Rattle.row_core.specs.Rows.{number_at}
 use Rattle.row_core.proofs.AscendingLaws.{both_passed, Less-from_test, ascends-skip, ascends-tail}
-use Rattle.row_core.proofs.Members.{Contains-from_Has, Has, Has-flat_map, Has-from_Contains}
-use Rattle.row_core.proofs.Orders.{var_cmp_exact, var_cmp_total}
-use Rattle.named_equations.specs.Instances.{equation_numbers, subscripts_of, variable_of}
 use Rattle.named_equations.specs.Table.{other_trade}
-use Rattle.named_equations.specs.Variables.{trade, variable}
 use Rattle.row_book.specs.Definitions.{IsAt, IsChosen, IsDefinedIn}
-use Rattle.row_book.specs.Kept.{IsBook}
 use Rattle.row_book.specs.Kinds.{tidied}
-use Rattle.row_book.proofs.Definers.{chosen-some}
 use Rattle.row_book.proofs.KeptLaws.{at-index}
 use Rattle.row_book.proofs.KindLaws.{defined-by_kind, kind_of, nothing-defined}
 use Rattle.row_book.proofs.Numbers.{passes-at}
-use Rattle.written_method.specs.Definitions.{Definition, definitions_of, defined, is_among, others_of, rows_of, avoids, AreTriangular}
-use Rattle.written_method.specs.Eliminated.{cost_variable, is_column}
 use Rattle.written_method.specs.Ready.{IsAmong}
 use Rattle.variable_elimination.specs.Meaning.{only_raises, KeepSigns}
 use Rattle.variable_elimination.specs.SoFar.{HaveNone}
@@ -42,7 +21,6 @@ use Rattle.variable_elimination.proofs.LeftLaws.{number_at-none}
 use Rattle.variable_elimination.proofs.LiftLaws.{alike, from_not}
 use Rattle.variable_elimination.proofs.ReadyLaws.{contains-from_among}
 use Rattle.variable_elimination.proofs.VariableLaws.{itself}
-use Rattle.command_answers.specs.Definers.{definer, definers}
 use Rattle.row_problem.specs.Problems.{IsProblem, IsRepeatedBy}
 
 -- the definitions among the rows

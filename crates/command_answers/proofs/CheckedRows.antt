@@ -1,24 +1,9 @@
 -- The rows of a book hold of a plan exactly where the plan meets the named equations, and what the checks say of rows they say of the equations.
 use Rattle.std.proofs.Common.{◌≡◌, ℕ, ℤ, pos, ◌*ℤ◌, ◌≤ℤ◌, Bool, true, false, List, [], ◌∷◌, refl, subst, inl, inr}
-use Rattle.std.specs.Prelude.{◌↔◌}
-use Rattle.exact_num.specs.Rational.{Rational}
-use Rattle.model_sets.specs.Data.{Data}
-use Rattle.row_core.specs.declared.Row.{Row}
-use Rattle.row_core.specs.declared.RowName.{RowName}
-use Rattle.row_core.specs.declared.Var.{Var}
-use Rattle.row_core.specs.Kinds.{kind_is_free}
-use Rattle.row_core.specs.Order.{var_cmp}
+use Rattle.command_answers.proofs.Common.{◌↔◌, Rational, Data, Row, RowName, Var, kind_is_free, var_cmp, all_variables, instances, Feasible, MeetsEach, cost, Has, Has-from_Contains, Contains-from_Has, AreRowsOf, AdmitsNone, BoundsAll, cost_of, model_cost, AreFeasible, BoundsFeasible, IsBookOf, NoneIsFeasible}
 use Rattle.row_core.specs.Values.{IsOver}
-use Rattle.named_equations.specs.Existence.{all_variables}
-use Rattle.named_equations.specs.Instances.{instances}
-use Rattle.named_equations.specs.Plans.{Feasible, MeetsEach, cost}
-use Rattle.row_core.proofs.Members.{Has, Has-from_Contains, Contains-from_Has}
-use Rattle.row_book.specs.Books.{AreRowsOf}
-use Rattle.certificate_checker.specs.Certificates.{AdmitsNone, BoundsAll}
-use Rattle.certificate_checker.specs.Costs.{cost_of, model_cost}
 use Rattle.certificate_checker.specs.Denominators.{AreOverSome}
 use Rattle.certificate_checker.specs.Plans.{AllStand, AreValuesOver, HaveRightSigns, IsRight, MeetsAll}
-use Rattle.command_answers.specs.CheckedPlans.{AreFeasible, BoundsFeasible, IsBookOf, NoneIsFeasible}
 use Rattle.command_answers.proofs.PlanCosts.{all-of, cost-is}
 
 -- ---- rows and equations

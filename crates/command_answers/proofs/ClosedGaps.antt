@@ -1,15 +1,11 @@
 -- A cost that is its bound is within any gap of it, and no other numbers are formed to see that.
-use Rattle.std.proofs.Common.{◌≡◌, ℕ, ℤ, pos, ◌-ℤ◌, ◌*ℤ◌, Bool, true, false, refl, sym, ◌∙◌, subst, arith}
+use Rattle.command_answers.proofs.Common.{◌≡◌, ℕ, ℤ, pos, ◌-ℤ◌, ◌*ℤ◌, Bool, true, false, refl, sym, ◌∙◌, subst, arith, ints, all_fit, Rational, minus, IsClosed, IsNear}
 use Rattle.std.specs.Prelude.{◌<ℤ◌, ◌≤ℤ◌, int_lt}
-use Rattle.std.proofs.lemmas.Int.{ints}
 use Rattle.exact_num.specs.Formed.{difference_formed}
-use Rattle.exact_num.specs.Range.{all_fit}
-use Rattle.exact_num.specs.Rational.{Rational, minus}
 use Rattle.exact_num.proofs.Integers.{*ℤ_pos}
 use Rattle.row_core.proofs.SumLaws.{IsOver-ratio}
 use Rattle.certificate_checker.proofs.GapLaws.{gap_passes_below, gap_wide_at_once}
 use Rattle.certificate_checker.proofs.OverLaws.{over_nonpositive}
-use Rattle.certified_answers.specs.Worth.{IsClosed, IsNear}
 
 -- the difference fits, since it is formed at no gap too
 difference-fits : (cost bound : Rational) → IsClosed cost bound → all_fit (difference_formed cost bound) ≡ true

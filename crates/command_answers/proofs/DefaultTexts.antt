@@ -1,6 +1,6 @@
 -- Texts of a data section that name the members of sets and the defaults of parameters, a line each: they say just that.
 use Rattle.std.proofs.Common.{◌≡◌, ◌≢◌, ℕ, ℤ, Bool, true, false, inr, List, [], ◌∷◌, ◌++◌, map, codes, Option, Some, None, refl, ap}
-use Rattle.std.specs.List.{list_all}
+use Rattle.command_answers.proofs.Common.{list_all, Blocks, Means, IsLoose, blocks_of, reading, set_number, param_number, Says}
 use Rattle.mathprog_data.proofs.NamesOnce.{new-names}
 use Rattle.mathprog_data.proofs.NumberReadingLaws.{reading-Reads}
 use Rattle.mathprog_data.proofs.RunLaws.{are_new, first_true, second_true}
@@ -15,16 +15,11 @@ use Rattle.mathprog_data.specs.LexingMachine.{State, taken, first as at_first}
 use Rattle.mathprog_data.specs.LexingPieces.{Piece, Separator, SignToken, BareToken}
 use Rattle.mathprog_data.specs.LexingRuns.{and_then, nothing_more, placed_of}
 use Rattle.mathprog_data.specs.MachineStates.{Open, Event, empty_draft}
-use Rattle.mathprog_data.specs.Meaning.{Blocks, Means, IsLoose, blocks_of}
 use Rattle.mathprog_data.specs.Meaning as sections
-use Rattle.mathprog_data.specs.NumberReading.{reading}
-use Rattle.model_sets.specs.Names.{set_number}
-use Rattle.model_sets.specs.Params.{param_number}
 use Rattle.mathprog_data.specs.Statements.{Listed, Members, Statement, Set, Param, IsStatement}
 use Rattle.mathprog_data.specs.Statements as trees
 use Rattle.mathprog_data.specs.Symbols.{Name, Number}
 use Rattle.mathprog_data.specs.Symbols as symbols
-use Rattle.mathprog_data.specs.Verdicts.{Says}
 
 -- ---- the signs, which other crates cannot name: what the lexer sees at their bytes
 

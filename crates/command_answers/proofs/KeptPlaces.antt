@@ -1,32 +1,14 @@
 -- The places of the steps that the exact method takes are those of rows that pass a test of names, where all rows do, and of variables of the sets: so the place at which it
 -- stops has a name that can be written.
-use Rattle.std.proofs.Common.{◌≡◌, ℕ, zero, suc, ℤ, Bool, true, false, if◌then◌else◌, List, [], ◌∷◌, ◌++◌, map, filter, Option, Some, None, inl, inr, refl, subst}
-use Rattle.std.proofs.lemmas.Bool.{cases_Bool}
+use Rattle.command_answers.proofs.Common.{◌≡◌, ℕ, zero, suc, ℤ, Bool, true, false, if◌then◌else◌, List, [], ◌∷◌, ◌++◌, map, filter, Option, Some, None, inl, inr, refl, subst, cases_Bool, ⊤, AllByRecursion, all_fit, Rational, Step, first_wide, SetLists, Row, RowName, Var, Place, LiftDirection, LiftPlan, var_cmp, IsWithinSets, AllByRecursion-append, AllByRecursion-filter, AllByRecursion-map, AllByRecursion-weaker, model_cost, Definition, definitions_of, others_of, ReducedRow, definition_steps, elimination_steps, expanded_all, is_column, is_kept, reduced_row, row_steps, unscaled, multiplier_bound, plan_cost, Model, One, HasNoBound, HasNoPlan, HasOptimum, IsWide, MethodEnd, carried_end, closing_checks, method_end, optimal_end, refutation_checks, solved_end, unbounded_end, unless_wide, definer, definers, IsVariableOfSets, PlaceKeeps}
 use Rattle.std.proofs.lemmas.Option.{same_Some}
-use Rattle.std.specs.Prelude.{⊤}
-use Rattle.std.specs.List.{AllByRecursion}
 use Rattle.std.specs.BTreeMap.{insert_entry}
-use Rattle.exact_num.specs.Range.{all_fit}
-use Rattle.exact_num.specs.Rational.{Rational}
-use Rattle.exact_num.specs.Steps.{Step, first_wide}
-use Rattle.model_sets.specs.Members.{SetLists}
-use Rattle.row_core.specs.declared.Row.{Row}
-use Rattle.row_core.specs.declared.RowName.{RowName}
-use Rattle.row_core.specs.declared.Var.{Var}
-use Rattle.row_core.specs.declared.place.Place.{Place}
-use Rattle.row_core.specs.declared.place.Place.TheVariants.{LiftDirection, LiftPlan}
 use Rattle.row_core.specs.Forms.{Form, form_of}
-use Rattle.row_core.specs.Order.{var_cmp}
 use Rattle.row_core.specs.Plans.{value_in}
-use Rattle.row_book.specs.Books.{IsWithinSets}
-use Rattle.row_book.proofs.Lists.{AllByRecursion-append, AllByRecursion-filter, AllByRecursion-map, AllByRecursion-weaker}
 use Rattle.certificate_checker.specs.Conditions.{Condition, steps}
-use Rattle.certificate_checker.specs.Costs.{model_cost}
 use Rattle.certificate_checker.specs.Gaps.{gap_condition}
 use Rattle.certificate_checker.specs.MultiplierChecks.{bound_conditions, infeasible_conditions}
 use Rattle.certificate_checker.specs.PlanChecks.{direction_conditions, plan_conditions}
-use Rattle.written_method.specs.Definitions.{Definition, definitions_of, others_of}
-use Rattle.written_method.specs.Eliminated.{ReducedRow, definition_steps, elimination_steps, expanded_all, is_column, is_kept, reduced_row, row_steps, unscaled}
 use Rattle.written_method.specs.Expanded.{expanded}
 use Rattle.written_method.specs.FirstTableau.{first_state}
 use Rattle.written_method.specs.Lifted.{lifted_steps, lifted_value, no_right_side, right_side}
@@ -37,13 +19,8 @@ use Rattle.written_method.specs.Runs.{Answer, End, Ended, Optimal, PivotDue, Ran
 use Rattle.written_method.specs.Solved.{IsInfeasible, IsOptimal, IsOutOfPivots, IsTooWide, IsUnbounded, Outcome, checked_end, end_steps, outcome_of, outcome_of_end, solved}
 use Rattle.written_method.specs.Values.{by_variable_steps, column_direction, column_value}
 use Rattle.certified_answers.specs.Costs.{is_model, weight_of}
-use Rattle.certified_answers.specs.Worth.{multiplier_bound, plan_cost}
 use Rattle.certified_answers.specs.declared.costs.Cost.{Cost}
-use Rattle.certified_answers.specs.declared.costs.Cost.TheVariants.{Model, One}
 use Rattle.row_problem.specs.Programs.{carried_direction, carried_multipliers, carried_plan, carrying_steps, direction_steps, name_left, plan_steps, program_left, rows_left, scale_left}
-use Rattle.exact_solver.specs.MethodEnds.{HasNoBound, HasNoPlan, HasOptimum, IsWide, MethodEnd, carried_end, closing_checks, method_end, optimal_end, refutation_checks, solved_end, unbounded_end, unless_wide}
-use Rattle.command_answers.specs.Definers.{definer, definers}
-use Rattle.command_answers.specs.PlacesWithin.{IsVariableOfSets, PlaceKeeps}
 
 module _ (sets : SetLists) (Passes : RowName → Type 0) where
   -- the places of steps are kept

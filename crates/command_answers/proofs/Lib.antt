@@ -1,3 +1,4 @@
+pub mod Common
 pub mod Acceptance
 pub mod AcceptedExample
 pub mod AcceptedData

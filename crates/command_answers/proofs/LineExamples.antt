@@ -1,13 +1,6 @@
 -- The lines of refusals and of stops, and the exit statuses, computed on examples.
-use Rattle.std.proofs.Common.{◌≡◌, [], ◌∷◌, map, Some, None, refl}
-use Rattle.std.specs.Prelude.{codes}
-use Rattle.std.specs.Fmt.{digits}
-use Rattle.model_sets.specs.Members.{SetLists}
-use Rattle.named_equations.specs.Variables.{new_capacity}
+use Rattle.command_answers.proofs.Common.{◌≡◌, [], ◌∷◌, map, Some, None, refl, codes, digits, SetLists, new_capacity, Place, SumCost, StorageMember, UnknownName, GivenBefore, AtIndex, text_line, set_line, data_line, no_such_line, index_of}
 use Rattle.row_core.specs.Names.{caa2}
-use Rattle.row_core.specs.declared.place.Place.{Place}
-use Rattle.row_core.specs.declared.place.Place.TheVariants.{SumCost}
-use Rattle.param_tables.specs.Refusals.{StorageMember, UnknownName, GivenBefore, AtIndex}
 use Rattle.param_tables.specs.declared.fault.CellFault.TheVariants.{NoValue, OutOfRange, WholeUnits}
 use Rattle.plan_files.specs.declared.faults.PlanFault.TheVariants.{Missing}
 use Rattle.plan_files.specs.declared.faults.PlanFault.TheVariants as faults
@@ -19,9 +12,7 @@ use Rattle.command_answers.specs.declared.status.Status.TheVariants.{Infeasible,
 use Rattle.command_answers.specs.Codes.{code_of}
 use Rattle.command_answers.specs.Lines.{entries_line, stop_line, too_large_line, too_long_line, uncertified_line, words_line}
 use Rattle.command_answers.specs.PlanFaultLines.{multiplier_fault_line, plan_fault_line}
-use Rattle.command_answers.specs.RefusalLines.{text_line, set_line, data_line, no_such_line}
 use Rattle.model_sets.specs.declared.set_numbers.TheConstants.{EMISSION, YEAR}
-use Rattle.model_sets.specs.Members.{index_of}
 
 -- ---- words and files
 

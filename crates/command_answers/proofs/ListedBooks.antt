@@ -1,12 +1,5 @@
 -- The rows and variables of a book are those of the sets.
-use Rattle.std.proofs.Common.{◌≡◌, List, [], ◌∷◌, map}
-use Rattle.std.specs.List.{AllByRecursion}
-use Rattle.model_sets.specs.Members.{SetLists}
-use Rattle.row_core.specs.declared.Row.{Row}
-use Rattle.row_core.specs.declared.Var.{Var}
-use Rattle.plan_files.specs.Listed.{IsListedRow, IsListedVariable, name_of_row}
-use Rattle.row_book.specs.Books.{HasNameWithin, IsWithinSets}
-use Rattle.command_answers.specs.CheckedPlans.{IsListedBook}
+use Rattle.command_answers.proofs.Common.{◌≡◌, List, [], ◌∷◌, map, AllByRecursion, SetLists, Row, Var, IsListedRow, IsListedVariable, name_of_row, HasNameWithin, IsWithinSets, IsListedBook}
 
 -- the same rows and variables are as much listed
 pub listed-as : (sets : SetLists) (rows : List Row) (vars : List Var) (same_rows : List Row) (same_vars : List Var) → same_rows ≡ rows → same_vars ≡ vars

@@ -1,20 +1,10 @@
 -- Instances and variables that exist have subscripts in their sets, and 0 where they have none: files can name them.
-use Rattle.std.proofs.Common.{◌≡◌, ℕ, true, false, List, [], ◌∷◌, map, sym, subst, eqb-true}
-use Rattle.std.specs.List.{AllByRecursion}
-use Rattle.model_sets.specs.Data.{Data}
+use Rattle.command_answers.proofs.Common.{◌≡◌, ℕ, true, false, List, [], ◌∷◌, map, sym, subst, eqb-true, AllByRecursion, Data, Row, Var, exists, subscripts_of_kind, instances, is_index, is_one_of, is_value_at, subscripts_of, AreRowsOf, IsWithinSets, exists-within, AllByRecursion-weaker, HasUnusedZero, IsListedRow, IsListedVariable, name_of_row}
 use Rattle.row_core.specs.declared.Index.{Index}
-use Rattle.row_core.specs.declared.Row.{Row}
-use Rattle.row_core.specs.declared.Var.{Var}
 use Rattle.row_core.specs.Subscripts as place
-use Rattle.named_equations.specs.Existence.{exists, subscripts_of_kind}
-use Rattle.named_equations.specs.Instances.{instances, is_index, is_one_of, is_value_at, subscripts_of}
-use Rattle.row_book.specs.Books.{AreRowsOf, IsWithinSets}
-use Rattle.row_book.proofs.Definers.{exists-within}
 use Rattle.row_book.proofs.Instances.{IsInstance, all-instances}
-use Rattle.row_book.proofs.Lists.{AllByRecursion-weaker}
 use Rattle.row_book.proofs.Subscripts.{values-from_index}
 use Rattle.row_book.proofs.Within.{name-within, names-of_rows}
-use Rattle.plan_files.specs.Listed.{HasUnusedZero, IsListedRow, IsListedVariable, name_of_row}
 
 -- ---- subscripts
 

@@ -1,22 +1,6 @@
 -- What is known of a book of rows that was made of a model.
-use Rattle.std.proofs.Common.{◌≡◌, ℕ, true, List, inl, inr}
-use Rattle.std.specs.Prelude.{Contains}
-use Rattle.std.specs.List.{AllByRecursion}
-use Rattle.model_sets.specs.Data.{Data}
-use Rattle.row_core.specs.declared.Row.{Row}
-use Rattle.row_core.specs.declared.Var.{Var}
-use Rattle.row_core.specs.Numbers.{ascends}
-use Rattle.row_core.specs.Order.{var_cmp}
-use Rattle.named_equations.specs.Existence.{all_variables, exists}
-use Rattle.named_equations.specs.Instances.{instances}
-use Rattle.row_core.proofs.Members.{Has-from_Contains}
-use Rattle.row_book.specs.Books.{AreRowsOf, Book, CanBeMade, IsWithinSets}
-use Rattle.row_book.proofs.Lists.{all-has}
+use Rattle.command_answers.proofs.Common.{◌≡◌, ℕ, true, List, inl, inr, Contains, AllByRecursion, Data, Row, Var, ascends, var_cmp, all_variables, exists, instances, Has-from_Contains, AreRowsOf, Book, CanBeMade, IsWithinSets, all-has, IsBookOf, IsWithinLimits, PassesLimits, DueBySize, DueForProgram, IsMadeBook, Status}
 use Rattle.row_book.proofs.SameRows as over_rows
-use Rattle.command_answers.specs.CheckedPlans.{IsBookOf}
-use Rattle.command_answers.specs.Limits.{IsWithinLimits, PassesLimits}
-use Rattle.command_answers.specs.MadeBooks.{DueBySize, DueForProgram, IsMadeBook}
-use Rattle.command_answers.specs.declared.status.Status.{Status}
 use Rattle.command_answers.proofs.CheckedRows.{vars-are}
 use Rattle.command_answers.proofs.ListedNames.{rows-listed, vars-listed}
 

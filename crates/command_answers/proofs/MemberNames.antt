@@ -1,11 +1,6 @@
 -- The names of the members of an index, with commas between them.
-use Rattle.std.proofs.Common.{◌≡◌, ℕ, Bool, true, zero, suc, ◌+◌, ◌<◌, refl, List, [], ◌∷◌, ◌++◌, length, take, get_or, ltb, ap, sym, ◌∙◌, append_assoc, arith}
-use Rattle.std.specs.List.{join_with_byte}
-use Rattle.std.proofs.lemmas.List.{length-take-le, take_more}
-use Rattle.std.proofs.lemmas.Bool.{lt-ltb}
+use Rattle.command_answers.proofs.Common.{◌≡◌, ℕ, Bool, true, zero, suc, ◌+◌, ◌<◌, refl, List, [], ◌∷◌, ◌++◌, length, take, get_or, ltb, ap, sym, ◌∙◌, append_assoc, arith, join_with_byte, length-take-le, take_more, lt-ltb, SetLists, members, ArePositions, names_over}
 use Rattle.std.proofs.Math.Nat.{zero-lt-suc}
-use Rattle.model_sets.specs.Members.{SetLists, members}
-use Rattle.param_tables.specs.Positions.{ArePositions, names_over}
 use Rattle.row_core.proofs.NameLaws.{comma}
 
 longer : {A : Type 0} (x : A) (xs : List A) → ltb 0 (length (x ∷ xs)) ≡ true

@@ -1,16 +1,7 @@
 -- The variables of a book are those that exist, and what a plan costs over them is its cost.
-use Rattle.std.proofs.Common.{◌≡◌, ℤ, true, List, ap, ◌∙◌}
+use Rattle.command_answers.proofs.Common.{◌≡◌, ℤ, true, List, ap, ◌∙◌, Data, Var, ascends, var_cmp, Has-from_Contains, Contains-from_Has, var_cmp_total, cost_of, model_cost, all_variables, exists, cost}
 use Rattle.std.specs.List.{Contains}
-use Rattle.model_sets.specs.Data.{Data}
-use Rattle.row_core.specs.declared.Var.{Var}
-use Rattle.row_core.specs.Numbers.{ascends}
-use Rattle.row_core.specs.Order.{var_cmp}
-use Rattle.row_core.proofs.Members.{Has-from_Contains, Contains-from_Has}
-use Rattle.row_core.proofs.Orders.{var_cmp_total}
 use Rattle.row_problem.proofs.SameLists.{same-list}
-use Rattle.certificate_checker.specs.Costs.{cost_of, model_cost}
-use Rattle.named_equations.specs.Existence.{all_variables, exists}
-use Rattle.named_equations.specs.Plans.{cost}
 use Rattle.named_equations.proofs.InstanceOrder.{variables-ascend}
 use Rattle.named_equations.proofs.InstanceTests.{Contains-variables}
 use Rattle.plan_costs.proofs.ModelCost.{cost-of_all}

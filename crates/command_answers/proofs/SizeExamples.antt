@@ -1,9 +1,5 @@
 -- What is due by the size of a linear program, on one without rows and columns, and near misses.
-use Rattle.std.proofs.Common.{ℕ, List, [], inl, inr, arith}
-use Rattle.std.specs.Prelude.{⊤}
-use Rattle.command_answers.specs.Limits.{IsWithinLimits}
-use Rattle.command_answers.specs.MadeBooks.{DueBySize}
-use Rattle.command_answers.specs.declared.status.Status.{Status}
+use Rattle.command_answers.proofs.Common.{ℕ, List, [], inl, inr, arith, ⊤, IsWithinLimits, DueBySize, Status}
 
 abbrev always : Status → List ℕ → Type 0
 always status text = ⊤

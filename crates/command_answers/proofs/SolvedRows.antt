@@ -1,17 +1,5 @@
 -- What is proved of the rows of a book at the ends of a method holds of the plans of the named equations.
-use Rattle.std.proofs.Common.{◌≡◌, ℕ, ℤ, pos, ◌<ℤ◌, List, ◌∙◌}
-use Rattle.exact_num.specs.Rational.{Rational}
-use Rattle.model_sets.specs.Data.{Data}
-use Rattle.row_core.specs.declared.Row.{Row}
-use Rattle.row_core.specs.declared.RowName.{RowName}
-use Rattle.row_core.specs.declared.Var.{Var}
-use Rattle.row_core.specs.Numbers.{keys_of}
-use Rattle.named_equations.specs.Existence.{all_variables}
-use Rattle.certificate_checker.specs.Certificates.{CostsLess}
-use Rattle.certificate_checker.specs.Costs.{model_cost}
-use Rattle.certified_answers.specs.Answers.{AreNamedIn}
-use Rattle.certified_answers.specs.Worth.{IsBound, IsClosed, IsDescent, IsNear, IsPlan, IsRefutation}
-use Rattle.command_answers.specs.CheckedPlans.{AreFeasible, IsBookOf}
+use Rattle.command_answers.proofs.Common.{◌≡◌, ℕ, ℤ, pos, ◌<ℤ◌, List, ◌∙◌, Rational, Data, Row, RowName, Var, keys_of, all_variables, CostsLess, model_cost, AreNamedIn, IsBound, IsClosed, IsDescent, IsNear, IsPlan, IsRefutation, AreFeasible, IsBookOf}
 use Rattle.command_answers.specs.SolvedPlans.{AreUnbounded, HasNoLeastCost, IsNearOptimum, IsOptimum, IsRefuted}
 use Rattle.command_answers.proofs.CheckedRows.{are-feasible, bounds-feasible, costs-same, feasible-from_rows, none-feasible, vars-are}
 use Rattle.command_answers.proofs.ClosedGaps.{closed-near}

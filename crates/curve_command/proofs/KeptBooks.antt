@@ -1,28 +1,13 @@
 -- The book of the data with a limit: one that was made, or that of another limit with the limit's row renewed.
-use Rattle.std.proofs.Common.{◌≡◌, ℕ, ℤ, pos, map, sym, ap, ◌∙◌, subst}
-use Rattle.std.specs.Prelude.{◌≤ℤ◌}
-use Rattle.model_sets.specs.Data.{AreSameData, Data}
-use Rattle.model_sets.specs.Members.{SetLists}
+use Rattle.curve_command.proofs.Common.{◌≡◌, ℕ, ℤ, pos, map, sym, ap, ◌∙◌, subst, ◌≤ℤ◌, AreSameData, Data, SetLists, RowName, Var, var_cmp, exists, instances, Book, HasStopped, BookFail, fits-same, is_named_row, same-many, same-terms, same-wide, IsListedBook, IsMadeBook, IsRenewed, limit_at, with_limit}
 use Rattle.param_tables.specs.Canonical.{canonical}
 use Rattle.param_tables.proofs.CanonicalLaws.{canonical_same}
-use Rattle.row_core.specs.declared.RowName.{RowName}
-use Rattle.row_core.specs.declared.Var.{Var}
 use Rattle.row_core.specs.Numbers.{ascends}
-use Rattle.row_core.specs.Order.{var_cmp}
-use Rattle.named_equations.specs.Existence.{exists}
-use Rattle.named_equations.specs.Instances.{instances}
 use Rattle.named_equations.proofs.SameInstances.{back, same-exists, same-says}
 use Rattle.plan_files.specs.Listed.{name_of_row}
-use Rattle.row_book.specs.Books.{Book, HasStopped}
-use Rattle.row_book.specs.declared.fail.BookFail.{BookFail}
 use Rattle.row_book.specs.declared.fail.BookFail.TheVariants as fails
 use Rattle.row_book.proofs.SameRows as over_rows
-use Rattle.row_book.proofs.SameRows.{fits-same, is_named_row, same-many, same-terms, same-wide}
 use Rattle.row_book.proofs.Within.{names-of_rows}
-use Rattle.command_answers.specs.CheckedPlans.{IsListedBook}
-use Rattle.command_answers.specs.MadeBooks.{IsMadeBook}
-use Rattle.curve_command.specs.KeptRows.{IsRenewed}
-use Rattle.curve_command.specs.Limited.{limit_at, with_limit}
 use Rattle.curve_command.proofs.LimitValues.{IsPlace}
 use Rattle.curve_command.proofs.LimitedLaws.{exists-alike, limit-instance, limits-alike}
 use Rattle.curve_command.proofs.RenewedLaws.{other-rows}

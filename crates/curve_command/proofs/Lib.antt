@@ -1,3 +1,4 @@
+pub mod Common
 pub mod LimitValues
 pub mod LimitedLaws
 pub mod RenewedLaws

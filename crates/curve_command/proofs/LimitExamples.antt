@@ -1,24 +1,9 @@
 -- Two technologies that make a fuel, one at an investment of 5 with a unit of an emission for each unit that it makes, the other at one of 10 without: running costs
 -- are 3, the demand is 10. At a limit x on the emissions of the model period the least cost is 130 - 5 x, and 80 from 10 on.
-use Rattle.std.proofs.Common.{◌≡◌, ℕ, ◌+◌, ◌-◌, ◌*◌, ◌^◌, ℤ, pos, negsuc, neg_ℤ, ◌+ℤ◌, ◌*ℤ◌, Bool, true, false, List, [], ◌∷◌, map, refl}
-use Rattle.std.specs.List.{list_all}
-use Rattle.std.specs.Ordering.{is_eq}
+use Rattle.curve_command.proofs.Common.{◌≡◌, ℕ, ◌+◌, ◌-◌, ◌*◌, ◌^◌, ℤ, pos, negsuc, neg_ℤ, ◌+ℤ◌, ◌*ℤ◌, Bool, true, false, List, [], ◌∷◌, map, refl, list_all, is_eq, Rational, whole, Data, Default, ANNUAL_EMISSION_LIMIT, AVAILABILITY_FACTOR, CAPACITY_FACTOR, CAPACITY_TO_ACTIVITY_UNIT, CAPITAL_COST, DEPRECIATION_METHOD, EMISSION_ACTIVITY_RATIO, FIXED_COST, MODEL_PERIOD_EMISSION_LIMIT, MODEL_PERIOD_EXOGENOUS_EMISSION, OPERATIONAL_LIFE, OUTPUT_ACTIVITY_RATIO, SPECIFIED_ANNUAL_DEMAND, SPECIFIED_DEMAND_PROFILE, TOTAL_ANNUAL_MAX_CAPACITY, TOTAL_ANNUAL_MAX_CAPACITY_INVESTMENT, TOTAL_TECHNOLOGY_ANNUAL_ACTIVITY_UPPER_LIMIT, VARIABLE_COST, YEAR_SPLIT, Var, DEMAND, MODEL_PERIOD_EMISSIONS, RATE_OF_DEMAND, row_name_cmp, subscripts_of_kind, instances, is_instance, is_one_of, model_period_emission_limit, cost, meets, model_period_emissions, above_limit, limit_at, with_limit}
 use Rattle.std.specs.Prelude.{◌&&◌, ◌||◌, codes, if◌then◌else◌, int_le, nat_eq, slice_index_or}
-use Rattle.exact_num.specs.Rational.{Rational, whole}
 use Rattle.discount_factors.specs.Factors.{capital_factor, discounted, half_year_root, operating_factor, root_from, salvage_fraction}
-use Rattle.model_sets.specs.Data.{Data, Default}
-use Rattle.model_sets.specs.declared.param_numbers.TheConstants.{ANNUAL_EMISSION_LIMIT, AVAILABILITY_FACTOR, CAPACITY_FACTOR, CAPACITY_TO_ACTIVITY_UNIT, CAPITAL_COST, DEPRECIATION_METHOD, EMISSION_ACTIVITY_RATIO, FIXED_COST, MODEL_PERIOD_EMISSION_LIMIT, MODEL_PERIOD_EXOGENOUS_EMISSION, OPERATIONAL_LIFE, OUTPUT_ACTIVITY_RATIO, SPECIFIED_ANNUAL_DEMAND, SPECIFIED_DEMAND_PROFILE, TOTAL_ANNUAL_MAX_CAPACITY, TOTAL_ANNUAL_MAX_CAPACITY_INVESTMENT, TOTAL_TECHNOLOGY_ANNUAL_ACTIVITY_UPPER_LIMIT, VARIABLE_COST, YEAR_SPLIT}
-use Rattle.row_core.specs.declared.Var.{Var}
-use Rattle.row_core.specs.declared.kind_numbers.TheConstants.{DEMAND, MODEL_PERIOD_EMISSIONS, RATE_OF_DEMAND}
-use Rattle.row_core.specs.Order.{row_name_cmp}
 use Rattle.row_core.specs.Subscripts as place
-use Rattle.named_equations.specs.Existence.{subscripts_of_kind}
-use Rattle.named_equations.specs.Instances.{instances, is_instance, is_one_of}
-use Rattle.named_equations.specs.Parameters.{model_period_emission_limit}
-use Rattle.named_equations.specs.Plans.{cost, meets}
-use Rattle.named_equations.specs.Variables.{model_period_emissions}
-use Rattle.curve_command.specs.CurvePoints.{above_limit}
-use Rattle.curve_command.specs.Limited.{limit_at, with_limit}
 
 -- ---- data
 

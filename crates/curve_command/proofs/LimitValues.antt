@@ -1,33 +1,15 @@
 -- The data with a limit on the emissions of the model period in a region: the limit's value, and that all other values are as they were.
-use Rattle.std.proofs.Common.{◌≡◌, ◌≢◌, ℕ, ℤ, pos, negsuc, Bool, true, false, cond, List, [], ◌∷◌, nat_eq, Option, Some, refl, sym, ap, ap₂, ◌∙◌, inl, inr, arith, eqb-true, to_z, of_z}
-use Rattle.std.specs.Prelude.{◌≤ℤ◌, unwrap_or}
-use Rattle.std.specs.Cmp.Derive.{both_true}
+use Rattle.curve_command.proofs.Common.{◌≡◌, ◌≢◌, ℕ, ℤ, pos, negsuc, Bool, true, false, cond, List, [], ◌∷◌, nat_eq, Option, Some, refl, sym, ap, ap₂, ◌∙◌, inl, inr, arith, eqb-true, to_z, of_z, ◌≤ℤ◌, unwrap_or, both_true, find, and_parts, cases_Bool, false_from_ne_true, ints, IsLimit, Data, default_of, is_given_at, value_at, value_of_none, AreSets, SetLists, MODEL_PERIOD_EMISSION_LIMIT, Index, E9, at_re, is_index, name_at, subscripts_of, model_period_emission_limit, index-tidied, values-from_index, IsMemberOf, given_limit, limit_at, limit_names, with_limit, Member}
 use Rattle.std.specs.Int.{w128}
-use Rattle.std.specs.List.{find}
 use Rattle.std.specs.Option.{option_map, option_or}
-use Rattle.std.proofs.lemmas.Bool.{and_parts, cases_Bool, false_from_ne_true}
-use Rattle.std.proofs.lemmas.Int.{ints}
 use Rattle.exact_num.proofs.RangeLaws.{back_in_range}
-use Rattle.command_words.specs.LimitLists.{IsLimit}
-use Rattle.model_sets.specs.Data.{Data, default_of, is_given_at, value_at, value_of_none}
-use Rattle.model_sets.specs.Members.{AreSets, SetLists}
 use Rattle.model_sets.specs.Names as sets
-use Rattle.model_sets.specs.declared.param_numbers.TheConstants.{MODEL_PERIOD_EMISSION_LIMIT}
 use Rattle.param_tables.proofs.GivenLaws.{names_same}
 use Rattle.param_tables.proofs.IndexLaws.{names_apart_from}
-use Rattle.row_core.specs.declared.Index.{Index}
-use Rattle.row_core.specs.declared.equation_numbers.TheConstants.{E9}
 use Rattle.row_core.specs.Subscripts as place
-use Rattle.named_equations.specs.Indices.{at_re}
-use Rattle.named_equations.specs.Instances.{is_index, name_at, subscripts_of}
-use Rattle.named_equations.specs.Parameters.{model_period_emission_limit}
 use Rattle.named_equations.specs.Where.{is_limit}
 use Rattle.named_equations.specs.Within.{IsEmission, IsRegion}
 use Rattle.named_equations.proofs.PositionsInSets.{are_in_sets}
-use Rattle.row_book.proofs.Subscripts.{index-tidied, values-from_index}
-use Rattle.curve_command.specs.KeptRows.{IsMemberOf}
-use Rattle.curve_command.specs.Limited.{given_limit, limit_at, limit_names, with_limit}
-use Rattle.curve_command.specs.declared.trials.Member.{Member}
 
 -- a region and an emission of sets whose members are apart
 pub record IsPlace (d : Data) (r e : ℕ) : Type 0 where

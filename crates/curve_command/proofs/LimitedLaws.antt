@@ -1,38 +1,10 @@
 -- The data with another limit on the emissions of the model period have the same equations but that one: what each says computes to the same. So a plan of these
 -- data is one at that limit, and of the data with two limits all rows but one are the same.
-use Rattle.std.proofs.Common.{◌≡◌, ◌≢◌, ℕ, ◌<◌, ℤ, pos, ◌*ℤ◌, Bool, true, false, ◌&&◌, List, [], ◌∷◌, ◌++◌, map, filter, nat_eq, refl, sym, ap, ◌∙◌, subst, inl, inr, arith, lt-ltb}
-use Rattle.std.specs.Prelude.{◌⊎◌, ◌<ℤ◌, ◌≤ℤ◌}
-use Rattle.std.specs.Cmp.Derive.{both_true}
-use Rattle.std.specs.List.{flat_map, list_any, range_with_len}
-use Rattle.std.specs.Ordering.{is_eq}
+use Rattle.curve_command.proofs.Common.{◌≡◌, ◌≢◌, ℕ, ◌<◌, ℤ, pos, ◌*ℤ◌, Bool, true, false, ◌&&◌, List, [], ◌∷◌, ◌++◌, map, filter, nat_eq, refl, sym, ap, ◌∙◌, subst, inl, inr, arith, lt-ltb, ◌⊎◌, ◌<ℤ◌, ◌≤ℤ◌, both_true, flat_map, list_any, range_with_len, is_eq, and_parts, cases_Bool, ints, ≤ℤ-*ℤ, ≤ℤ_cancel, products, Data, billion, Index, RowName, Var, E9, row_name_cmp, Holds, Statement, Has, append_parts, exists, exists_at, kind_numbers, subscripts_of_kind, at_re, equation_numbers, indices, instances, instances_of, is_index, is_instance, name_at, stands_at, subscripts_of, model_period_emission_limit, Feasible, Meets, MeetsEach, says, model_period_emissions, Has-instances, any_has, name-itself, same-name, terms_at, index-from_values, values-re, FeasibleWithin, limit_at, with_limit}
 use Rattle.std.proofs.Math.Path.{fun_ext}
-use Rattle.std.proofs.lemmas.Bool.{and_parts, cases_Bool}
 use Rattle.std.proofs.lemmas.Grind.{flat_map-append}
-use Rattle.std.proofs.lemmas.Int.{ints}
-use Rattle.exact_num.proofs.Integers.{≤ℤ-*ℤ, ≤ℤ_cancel}
-use Rattle.exact_num.proofs.Ring.{products}
-use Rattle.model_sets.specs.Data.{Data}
-use Rattle.param_tables.specs.Ranges.{billion}
-use Rattle.row_core.specs.declared.Index.{Index}
-use Rattle.row_core.specs.declared.RowName.{RowName}
-use Rattle.row_core.specs.declared.Var.{Var}
-use Rattle.row_core.specs.declared.equation_numbers.TheConstants.{E9}
 use Rattle.row_core.specs.EquationTerms.{EquationTerms}
-use Rattle.row_core.specs.Order.{row_name_cmp}
-use Rattle.row_core.specs.Statements.{Holds, Statement}
 use Rattle.row_core.specs.Subscripts as place
-use Rattle.row_core.proofs.Members.{Has, append_parts}
-use Rattle.named_equations.specs.Existence.{exists, exists_at, kind_numbers, subscripts_of_kind}
-use Rattle.named_equations.specs.Indices.{at_re}
-use Rattle.named_equations.specs.Instances.{equation_numbers, indices, instances, instances_of, is_index, is_instance, name_at, stands_at, subscripts_of}
-use Rattle.named_equations.specs.Parameters.{model_period_emission_limit}
-use Rattle.named_equations.specs.Plans.{Feasible, Meets, MeetsEach, says}
-use Rattle.named_equations.specs.Variables.{model_period_emissions}
-use Rattle.named_equations.proofs.InstanceTests.{Has-instances, any_has}
-use Rattle.certificate_checker.proofs.NamedSums.{name-itself, same-name}
-use Rattle.row_book.specs.EquationRows.{terms_at}
-use Rattle.row_book.proofs.Subscripts.{index-from_values, values-re}
-use Rattle.curve_command.specs.Limited.{FeasibleWithin, limit_at, with_limit}
 use Rattle.curve_command.proofs.LimitValues.{IsPlace, is-limit, limit-apart, limit-here, limits-stand}
 
 -- what holds of one name, and of each other name, holds of each

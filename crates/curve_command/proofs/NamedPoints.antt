@@ -1,41 +1,12 @@
 -- What is proved of the rows of a book at a limit on the emissions of the model period holds of the plans of the named equations, at that limit and at every other.
-use Rattle.std.proofs.Common.{◌≡◌, ◌≢◌, ℕ, ◌*◌, ◌<◌, ℤ, pos, neg_ℤ, ◌+ℤ◌, ◌-ℤ◌, ◌*ℤ◌, Bool, true, false, List, [], ◌∷◌, refl, sym, ap, ◌∙◌, subst, inl, inr, arith, true≢false}
-use Rattle.std.specs.Prelude.{◌≤ℤ◌, if◌then◌else◌}
-use Rattle.std.specs.Ordering.{is_eq}
-use Rattle.std.proofs.lemmas.Int.{ints}
-use Rattle.exact_num.specs.Rational.{Rational}
-use Rattle.exact_num.proofs.Integers.{≤ℤ-*ℤ}
-use Rattle.exact_num.proofs.Ring.{ring, +ℤ-zero}
-use Rattle.model_sets.specs.Data.{Data}
-use Rattle.param_tables.specs.Ranges.{billion}
-use Rattle.row_core.specs.declared.Row.{Row}
-use Rattle.row_core.specs.declared.RowName.{RowName}
-use Rattle.row_core.specs.declared.Var.{Var}
-use Rattle.row_core.specs.declared.kind_numbers.TheConstants.{MODEL_PERIOD_EMISSIONS}
-use Rattle.row_core.specs.Order.{row_name_cmp}
+use Rattle.curve_command.proofs.Common.{◌≡◌, ◌≢◌, ℕ, ◌*◌, ◌<◌, ℤ, pos, neg_ℤ, ◌+ℤ◌, ◌-ℤ◌, ◌*ℤ◌, Bool, true, false, List, [], ◌∷◌, refl, sym, ap, ◌∙◌, subst, inl, inr, arith, true≢false, ◌≤ℤ◌, if◌then◌else◌, is_eq, ints, Rational, ≤ℤ-*ℤ, ring, +ℤ-zero, Data, billion, Row, RowName, Var, MODEL_PERIOD_EMISSIONS, row_name_cmp, Holds, Stands, instances, is_instance, Meets, IsNamedRow, model_period_emissions, variable, Contains-from_Has, Has, Has-instances, name-itself, same-name, AreRowsOf, terms_at, IsBookOf, costs-same, feasible-from_rows, rows-from_feasible, signs-each, HasLine, HasLineBelow, HasNoBound, HasNoPlan, IsStopped, PointEnd, emissions_entry, EndIsTrue, IsLineBelow, IsReachedAt, NoneIsWithin, above_limit, FeasibleWithin, limit_at, with_limit}
 use Rattle.row_core.specs.Rows.{number_at, row_sum}
-use Rattle.row_core.specs.Statements.{Holds, Stands}
 use Rattle.certificate_checker.specs.Certificates.{AdmitsNone}
 use Rattle.certificate_checker.specs.Plans.{AllStand}
-use Rattle.named_equations.specs.Instances.{instances, is_instance}
-use Rattle.named_equations.specs.Plans.{Meets}
-use Rattle.named_equations.specs.RowMeaning.{IsNamedRow}
-use Rattle.named_equations.specs.Variables.{model_period_emissions, variable}
-use Rattle.row_core.proofs.Members.{Contains-from_Has, Has}
-use Rattle.named_equations.proofs.InstanceTests.{Has-instances}
 use Rattle.named_equations.proofs.TermMeaning.{alone-self}
-use Rattle.certificate_checker.proofs.NamedSums.{name-itself, same-name}
 use Rattle.plan_quantities.proofs.PriceLaws.{entry_at, lessened, row-lessened, row-wider}
-use Rattle.row_book.specs.Books.{AreRowsOf}
-use Rattle.row_book.specs.EquationRows.{terms_at}
-use Rattle.command_answers.specs.CheckedPlans.{IsBookOf}
-use Rattle.command_answers.proofs.CheckedRows.{costs-same, feasible-from_rows, rows-from_feasible, signs-each}
 use Rattle.command_answers.proofs.SolvedRows.{no-least}
-use Rattle.emission_curve.specs.Ends.{HasLine, HasLineBelow, HasNoBound, HasNoPlan, IsStopped, PointEnd}
 use Rattle.emission_curve.specs.Points as over_rows
-use Rattle.emission_curve.specs.Slopes.{emissions_entry}
-use Rattle.curve_command.specs.CurvePoints.{EndIsTrue, IsLineBelow, IsReachedAt, NoneIsWithin, above_limit}
-use Rattle.curve_command.specs.Limited.{FeasibleWithin, limit_at, with_limit}
 use Rattle.curve_command.proofs.LimitValues.{IsPlace, limit-here}
 use Rattle.curve_command.proofs.LimitedLaws.{exists-alike, feasible-from_within, instance-alike, says-alike, within-higher}
 

@@ -1,24 +1,13 @@
 -- The place at which a trial stops is that of a row or a variable of the sets, so its name can be written.
 use Rattle.std.proofs.Common.{◌≡◌, ℕ, Bool, true, false, List, refl, if◌then◌else◌}
 use Rattle.exact_num.specs.Range.{all_fit}
-use Rattle.exact_num.specs.Rational.{Rational}
-use Rattle.model_sets.specs.Members.{SetLists}
-use Rattle.row_core.specs.declared.Row.{Row}
-use Rattle.row_core.specs.declared.RowName.{RowName}
-use Rattle.row_core.specs.declared.Var.{Var}
-use Rattle.row_core.specs.declared.place.Place.TheVariants.{Price}
+use Rattle.curve_command.proofs.Common.{Rational, SetLists, Row, RowName, Var, Price, Width, IsListedBook, definers, HasLine, IsStopped, ended, point_end, slope_at, slope_formed, EndIsWithin}
 use Rattle.row_book.specs.Kept.{IsBook}
-use Rattle.simplex_core.specs.declared.stops.TrialStop.TheVariants.{Width}
 use Rattle.exact_solver.specs.MethodEnds.{MethodEnd}
 use Rattle.exact_solver.specs.MethodEnds as method
 use Rattle.command_answers.specs.BookMethods.{method_end}
-use Rattle.command_answers.specs.CheckedPlans.{IsListedBook}
-use Rattle.command_answers.specs.Definers.{definers}
 use Rattle.command_answers.specs.PlacesWithin.{IsRowOfSets}
 use Rattle.command_answers.proofs.BookPlaces.{stop-within}
-use Rattle.emission_curve.specs.Ends.{HasLine, IsStopped, ended, point_end}
-use Rattle.emission_curve.specs.Slopes.{slope_at, slope_formed}
-use Rattle.curve_command.specs.Outcomes.{EndIsWithin}
 
 pub exact-within : (sets : SetLists) (rows : List Row) (vars : List Var) (limit : RowName) (pivots : ℕ) → IsListedBook sets rows vars → IsBook rows vars → IsRowOfSets sets limit
     → EndIsWithin sets (point_end rows (definers rows) vars limit pivots)

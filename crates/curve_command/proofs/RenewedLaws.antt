@@ -1,29 +1,14 @@
 -- Rows of which one is put in the place of its twin are the rows of other data, where all other rows of these are the same; and so many of them can be made.
-use Rattle.std.proofs.Common.{◌≡◌, ◌≢◌, ℕ, ◌+◌, ◌≤◌, true, List, [], ◌∷◌, ◌++◌, length, refl, sym, ap, ap₂, ◌∙◌, subst, inl, inr, true≢false}
+use Rattle.curve_command.proofs.Common.{◌≡◌, ◌≢◌, ℕ, ◌+◌, ◌≤◌, true, List, [], ◌∷◌, ◌++◌, length, refl, sym, ap, ap₂, ◌∙◌, subst, inl, inr, true≢false, both_true, list_all, and_parts, cases_eq, Data, Row, RowName, Var, row_name_cmp, Has, Has-append_right, instances, is_instance, IsNamedRow, Has-instances, AreRowsOf, CanBeMade, entries_in, entry_count, entry_limit, row_fits, terms_at, are_rows_of, count-same, fits-same, is_named_row}
 use Rattle.std.specs.Prelude.{ℤ}
-use Rattle.std.specs.Cmp.Derive.{both_true}
-use Rattle.std.specs.List.{list_all}
 use Rattle.std.specs.declared.cmp.Ordering.TheVariants.{Less, Equal as Alike}
-use Rattle.std.proofs.lemmas.Bool.{and_parts, cases_eq}
 use Rattle.std.proofs.lemmas.Cmp.{tied_itself}
 use Rattle.std.proofs.lemmas.List.Sums.{sum_by-cons}
-use Rattle.model_sets.specs.Data.{Data}
-use Rattle.row_core.specs.declared.Row.{Row}
-use Rattle.row_core.specs.declared.RowName.{RowName}
-use Rattle.row_core.specs.declared.Var.{Var}
-use Rattle.row_core.specs.Order.{row_name_cmp}
-use Rattle.row_core.proofs.Members.{Has, Has-append_right}
 use Rattle.row_core.proofs.Orders.{row_name_cmp_total}
-use Rattle.named_equations.specs.Instances.{instances, is_instance}
-use Rattle.named_equations.specs.RowMeaning.{IsNamedRow}
 use Rattle.named_equations.proofs.InstanceOrder.{Sorted-instances}
-use Rattle.named_equations.proofs.InstanceTests.{Has-instances}
 use Rattle.named_equations.proofs.SortedLists.{Every, Sorted}
-use Rattle.row_book.specs.Books.{AreRowsOf, CanBeMade, entries_in, entry_count, entry_limit, row_fits}
-use Rattle.row_book.specs.EquationRows.{terms_at}
 use Rattle.row_book.specs.Replaced.{IsReplaced, same_variables}
 use Rattle.row_book.proofs.ReplacedLaws.{other-many}
-use Rattle.row_book.proofs.SameRows.{are_rows_of, count-same, fits-same, is_named_row}
 use Rattle.curve_command.proofs.LimitedLaws.{AreAlikeBut, at-name}
 
 -- ---- names in order

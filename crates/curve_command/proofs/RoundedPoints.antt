@@ -1,15 +1,8 @@
 -- What the rounded method finds at a limit is a point of the rows, and no stop.
-use Rattle.std.proofs.Common.{◌≡◌, Option, Some, None, Result, Ok, Err, inr}
-use Rattle.std.specs.Prelude.{IfOk, IfSome}
-use Rattle.model_sets.specs.Members.{SetLists}
-use Rattle.row_core.specs.declared.RowName.{RowName}
-use Rattle.row_book.specs.Books.{Book}
+use Rattle.curve_command.proofs.Common.{◌≡◌, Option, Some, None, Result, Ok, Err, inr, IfOk, IfSome, SetLists, RowName, Book, HasLine, HasLineBelow, HasNoBound, HasNoPlan, IsStopped, PointEnd, point_seen, EndIsWithin, IsPointBy, Wanted}
 use Rattle.command_words.specs.declared.command.SolveMethod.TheVariants.{Rounded}
-use Rattle.emission_curve.specs.Ends.{HasLine, HasLineBelow, HasNoBound, HasNoPlan, IsStopped, PointEnd, point_seen}
 use Rattle.emission_curve.specs.Points.{EndIsRounded, IsPointOf, IsRoundedPoint}
 use Rattle.emission_curve.specs.declared.point.Point.{Point}
-use Rattle.curve_command.specs.Outcomes.{EndIsWithin, IsPointBy}
-use Rattle.curve_command.specs.declared.trials.Wanted.{Wanted}
 
 module _ (sets : SetLists) (book : Book) (limit : RowName) (wanted : Wanted) (asked : wanted.method ≡ Rounded) where
   rounded-within : (end : PointEnd) → EndIsRounded wanted.gap end → EndIsWithin sets end

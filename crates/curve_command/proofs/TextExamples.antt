@@ -1,17 +1,11 @@
 -- Lines, texts and statuses, computed.
-use Rattle.std.proofs.Common.{◌≡◌, ◌*◌, ◌^◌, pos, negsuc, [], ◌∷◌, codes, map, refl}
+use Rattle.curve_command.proofs.Common.{◌≡◌, ◌*◌, ◌^◌, pos, negsuc, [], ◌∷◌, codes, map, refl, lowest, whole, no_members, Budget, Width, CostRow, HasLine, HasLineBelow, HasNoBound, HasNoPlan, IsStopped, curve_status, curve_text, limit_line}
 use Rattle.exact_num.specs.Gcd.{gcd_of, gcd_within}
-use Rattle.exact_num.specs.Rational.{lowest, whole}
-use Rattle.model_sets.specs.Members.{no_members}
 use Rattle.scaled_decimals.specs.PrintedFraction.{fraction_text}
 use Rattle.scaled_decimals.specs.PrintedPlaces.{millionths, millionths_text}
 use Rattle.std.specs.Fmt.{digits}
 use Rattle.simplex_core.specs.declared.stops.Stop.TheVariants.{Trial}
-use Rattle.simplex_core.specs.declared.stops.TrialStop.TheVariants.{Budget, Width}
-use Rattle.row_core.specs.declared.place.Place.TheVariants.{CostRow}
 use Rattle.command_answers.specs.declared.status.Status.TheVariants.{Done, Uncertified}
-use Rattle.emission_curve.specs.Ends.{HasLine, HasLineBelow, HasNoBound, HasNoPlan, IsStopped}
-use Rattle.curve_command.specs.CurveTexts.{curve_status, curve_text, limit_line}
 
 -- ---- lines
 

@@ -1,23 +1,7 @@
 -- What a book of the rows of the data with a limit tells is what is due of the trial.
-use Rattle.std.proofs.Common.{◌≡◌, ℕ, List, ap, inl, inr}
-use Rattle.command_words.specs.LimitLists.{IsLimit}
-use Rattle.model_sets.specs.Data.{Data}
-use Rattle.row_core.specs.declared.Row.{Row}
-use Rattle.row_core.specs.declared.Var.{Var}
-use Rattle.named_equations.specs.Existence.{all_variables}
-use Rattle.named_equations.specs.Instances.{instances}
-use Rattle.row_book.specs.Books.{Book, HasStopped}
-use Rattle.row_book.specs.declared.fail.BookFail.{BookFail}
+use Rattle.curve_command.proofs.Common.{◌≡◌, ℕ, List, ap, inl, inr, IsLimit, Data, Row, Var, all_variables, instances, Book, HasStopped, BookFail, Width, IsMadeBook, vars-are, IsStopped, point_seen, limit_of, limited, BookTells, FailTells, TrialTells, Wanted, Limit}
 use Rattle.row_book.specs.declared.fail.BookFail.TheVariants as fails
-use Rattle.simplex_core.specs.declared.stops.TrialStop.TheVariants.{Width}
-use Rattle.command_answers.specs.MadeBooks.{IsMadeBook}
 use Rattle.command_answers.specs.MadeRows.{IsMadeFor}
-use Rattle.command_answers.proofs.CheckedRows.{vars-are}
-use Rattle.emission_curve.specs.Ends.{IsStopped, point_seen}
-use Rattle.curve_command.specs.KeptRows.{limit_of, limited}
-use Rattle.curve_command.specs.Outcomes.{BookTells, FailTells, TrialTells}
-use Rattle.curve_command.specs.declared.trials.Wanted.{Wanted}
-use Rattle.curve_command.specs.declared.trials.Limit.{Limit}
 use Rattle.curve_command.specs.declared.trials.Trial.{Trial}
 use Rattle.curve_command.specs.declared.trials.Trial.TheVariants as trials
 use Rattle.curve_command.proofs.LimitValues.{IsPlace}

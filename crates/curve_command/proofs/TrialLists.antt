@@ -1,14 +1,6 @@
 -- Trials one after another.
-use Rattle.std.proofs.Common.{◌≡◌, ℕ, ◌+◌, ◌<◌, ℤ, List, [], ◌∷◌, ◌++◌, length, map, drop, get_or, sym, ap, ◌∙◌, append_assoc}
-use Rattle.std.specs.List.{AllByRecursion}
-use Rattle.std.proofs.lemmas.List.{drop_more, map-append}
-use Rattle.model_sets.specs.Data.{Data}
-use Rattle.curve_command.specs.Curve.{limits_in}
-use Rattle.curve_command.specs.Outcomes.{IsFoundOf, found_seen}
+use Rattle.curve_command.proofs.Common.{◌≡◌, ℕ, ◌+◌, ◌<◌, ℤ, List, [], ◌∷◌, ◌++◌, length, map, drop, get_or, sym, ap, ◌∙◌, append_assoc, AllByRecursion, drop_more, map-append, Data, limits_in, IsFoundOf, found_seen, Wanted, Found, Member}
 use Rattle.curve_command.specs.Trials.{IsTrialOf}
-use Rattle.curve_command.specs.declared.trials.Wanted.{Wanted}
-use Rattle.curve_command.specs.declared.trials.Found.{Found}
-use Rattle.curve_command.specs.declared.trials.Member.{Member}
 
 -- what was found is what the trials come to
 pub trials-of : (places : ℕ) (d : Data) (member : Member) (wanted : Wanted) (all : List Found) → AllByRecursion (IsFoundOf places d member wanted) all

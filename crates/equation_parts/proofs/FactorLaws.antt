@@ -1,15 +1,9 @@
 -- The factors at a region's position are the region's, and a factor that is written with their places is one of all regions' places.
-use Rattle.std.proofs.Common.{◌≡◌, ℕ, ℤ, List, Option, get_or, sym, ap₂, subst, ◌∙◌}
+use Rattle.equation_parts.proofs.Common.{◌≡◌, ℕ, ℤ, List, Option, get_or, sym, ap₂, subst, ◌∙◌, Data, region, known, number_of, count_of, AreFactorsOf, AreRegionFactors, IsRegion}
 use Rattle.std.proofs.lemmas.Option.{slice_get_read}
 use Rattle.discount_factors.specs.Known.{Discounting}
 use Rattle.exact_num.specs.declared.fraction.Frac.{Frac}
-use Rattle.model_sets.specs.Data.{Data}
-use Rattle.model_sets.specs.Names.{region}
 use Rattle.row_core.specs.Amounts.{Factor}
-use Rattle.row_core.specs.Calculated.{known, number_of}
-use Rattle.named_equations.specs.Positions.{count_of}
-use Rattle.named_equations.specs.RegionFactors.{AreFactorsOf, AreRegionFactors}
-use Rattle.named_equations.specs.Within.{IsRegion}
 
 pub factors-of : (places : ℕ) (d : Data) (factors : List Discounting) (r i : ℕ) (one : Discounting) → AreRegionFactors places d factors → IsRegion d r → i ≡ r → one ≡ get_or factors i one
     → AreFactorsOf places d r one

@@ -1,3 +1,4 @@
+pub mod Common
 pub mod FactorLaws
 pub mod Rates
 pub mod Splits

@@ -1,18 +1,9 @@
 -- A value from 0 to 1 as a number of billionths: the numerator of its fraction times what the denominator lacks to a billion.
-use Rattle.std.proofs.Common.{◌≡◌, ℕ, ◌*◌, ◌/◌, ◌<◌, ◌≤◌, ℤ, pos, Option, Some, None, ap, ap₂, sym, subst, ◌∙◌, to_z, of_z, arith}
+use Rattle.equation_parts.proofs.Common.{◌≡◌, ℕ, ◌*◌, ◌/◌, ◌<◌, ◌≤◌, ℤ, pos, Option, Some, None, ap, ap₂, sym, subst, ◌∙◌, to_z, of_z, arith, w128, ints, mul-div_cancel_left, InRange, lowest, pair, back_in_range, lowest-bottom, lowest-top, IsValueIn, IsInRange, billion}
 use Rattle.std.specs.Int.Signed.{quot_z}
-use Rattle.std.specs.Int.{w128}
 use Rattle.std.specs.Prelude.{IsSomeAnd, ◌≤ℤ◌, ◌<ℤ◌, ◌*ℤ◌, unsigned_abs, unwrap_or}
-use Rattle.std.proofs.lemmas.Int.{ints}
-use Rattle.std.proofs.Math.Nat.{mul-div_cancel_left}
 use Rattle.exact_num.specs.Gcd.{gcd_of}
-use Rattle.exact_num.specs.Range.{InRange}
-use Rattle.exact_num.specs.Rational.{lowest, pair}
 use Rattle.exact_num.proofs.GcdLaws.{gcd_of-le_right}
-use Rattle.exact_num.proofs.RangeLaws.{back_in_range}
-use Rattle.exact_num.proofs.RationalLaws.{lowest-bottom, lowest-top}
-use Rattle.param_tables.specs.Built.{IsValueIn}
-use Rattle.param_tables.specs.Ranges.{IsInRange, billion}
 use Rattle.model_sets.specs.declared.params.Range.{Range}
 use Rattle.model_sets.specs.declared.params.Range.TheVariants.{ZeroToOne}
 

@@ -1,18 +1,7 @@
 -- The tests of the code are those of the data values: a value is 0, or above 0, exactly where the numerator of its fraction is, and it is -1 exactly where the numerator is the negative of the denominator.
-use Rattle.std.proofs.Common.{◌≡◌, ◌≢◌, ℕ, ◌^◌, inl, inr, ℤ, pos, neg_ℤ, ◌-ℤ◌, ◌*ℤ◌, Bool, true, false, not, nat_eq, eqb-true, refl, sym, ap, ◌∙◌, subst, arith, to_z, of_z, T}
-use Rattle.std.specs.Prelude.{◌≤ℤ◌, ◌<ℤ◌, int_lt}
-use Rattle.std.specs.Int.{w128}
+use Rattle.equation_parts.proofs.Common.{◌≡◌, ◌≢◌, ℕ, ◌^◌, inl, inr, ℤ, pos, neg_ℤ, ◌-ℤ◌, ◌*ℤ◌, Bool, true, false, not, nat_eq, eqb-true, refl, sym, ap, ◌∙◌, subst, arith, to_z, of_z, T, ◌≤ℤ◌, ◌<ℤ◌, int_lt, w128, eq-eqb, ints, InRange, Rational, lowest, ≤ℤ_or_<ℤ, *ℤ_cancel, nonzero_of_pos, back_in_range, InRange-neg_ℤ, lowest-cross, neg_ℤ-*ℤ, zero-+ℤ, *ℤ_comm, is_limit, is_not_zero, is_positive, no_limit}
 use Rattle.std.specs.Ordering.{is_eq, is_gt, int_cmp, int_eq}
-use Rattle.std.proofs.lemmas.Bool.{eq-eqb}
-use Rattle.std.proofs.lemmas.Int.{ints}
-use Rattle.exact_num.specs.Range.{InRange}
-use Rattle.exact_num.specs.Rational.{Rational, lowest}
-use Rattle.exact_num.proofs.Integers.{≤ℤ_or_<ℤ, *ℤ_cancel, nonzero_of_pos}
 use Rattle.exact_num.proofs.OrderLaws.{int_cmp-less, int_cmp-equal, int_cmp-greater, lowest-sign}
-use Rattle.exact_num.proofs.RangeLaws.{back_in_range, InRange-neg_ℤ}
-use Rattle.exact_num.proofs.RationalLaws.{lowest-cross}
-use Rattle.exact_num.proofs.Ring.{neg_ℤ-*ℤ, zero-+ℤ, *ℤ_comm}
-use Rattle.named_equations.specs.Where.{is_limit, is_not_zero, is_positive, no_limit}
 
 -- ---- numbers that differ
 

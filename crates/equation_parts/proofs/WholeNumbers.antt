@@ -1,18 +1,6 @@
 -- A life and a method are whole numbers, and so the numerator of their fraction is the number; a rate is above 0 exactly where its numerator is.
 use Rattle.std.proofs.Common.{◌≡◌, ℕ, ◌*◌, ◌/◌, ◌^◌, ◌≤◌, inl, inr, pos, negsuc, ℤ, nat_lt, Option, Some, None, refl, sym, ap, ◌∙◌, arith, to_z, of_z}
-use Rattle.std.specs.Prelude.{◌≤ℤ◌, int_lt, unsigned_abs, unwrap_or, IsSomeAnd}
-use Rattle.std.specs.Int.{w128}
-use Rattle.std.proofs.lemmas.Int.{ints}
-use Rattle.std.proofs.Math.Nat.{mul-div_cancel}
-use Rattle.exact_num.specs.Range.{InRange}
-use Rattle.exact_num.specs.Rational.{Rational, lowest, whole}
-use Rattle.exact_num.proofs.RationalLaws.{lowest_is, whole-IsLowest}
-use Rattle.exact_num.proofs.Integers.{nonzero_of_pos}
-use Rattle.exact_num.proofs.Ring.{*ℤ-one}
-use Rattle.model_sets.specs.declared.param_numbers.TheConstants.{DISCOUNT_RATE, DEPRECIATION_METHOD, OPERATIONAL_LIFE}
-use Rattle.param_tables.specs.Built.{IsValueIn}
-use Rattle.param_tables.specs.Ranges.{billion}
-use Rattle.model_sets.specs.Params.{range_of}
+use Rattle.equation_parts.proofs.Common.{◌≤ℤ◌, int_lt, unsigned_abs, unwrap_or, IsSomeAnd, w128, ints, mul-div_cancel, InRange, Rational, lowest, whole, lowest_is, whole-IsLowest, nonzero_of_pos, *ℤ-one, DISCOUNT_RATE, DEPRECIATION_METHOD, OPERATIONAL_LIFE, IsValueIn, billion, range_of}
 use Rattle.equation_parts.proofs.ValueLaws.{positive-coded}
 
 -- ---- whole numbers

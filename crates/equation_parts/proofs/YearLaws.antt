@@ -1,19 +1,10 @@
 -- No year lies beyond the last, years are numbers from 1 on, and a life outlasts the model period where fewer years are left.
-use Rattle.std.proofs.Common.{◌≡◌, ℕ, zero, suc, ◌+◌, ◌-◌, ◌<◌, ◌≤◌, inl, inr, Bool, true, List, [], ◌∷◌, length, map, refl, sym, ◌∙◌, subst, arith, All, Contains}
-use Rattle.std.proofs.lemmas.Bool.{cases_Bool, and_parts, leb-true, ltb-true, lt-ltb}
-use Rattle.std.proofs.lemmas.List.{length-map}
+use Rattle.equation_parts.proofs.Common.{◌≡◌, ℕ, zero, suc, ◌+◌, ◌-◌, ◌<◌, ◌≤◌, inl, inr, Bool, true, List, [], ◌∷◌, length, map, refl, sym, ◌∙◌, subst, arith, All, Contains, cases_Bool, and_parts, leb-true, ltb-true, lt-ltb, length-map, nat_le, nat_lt, ◌&&◌, Data, AreSets, members, years, first_year, last_year, year, number_of_year, IsYear, life_of}
 use Rattle.std.specs.Fmt.{decimal}
-use Rattle.std.specs.Prelude.{nat_le, nat_lt, ◌&&◌}
 use Rattle.std.specs.Str.{bytes_eq}
-use Rattle.model_sets.specs.Data.{Data}
-use Rattle.model_sets.specs.Members.{AreSets, members, years, first_year, last_year}
-use Rattle.model_sets.specs.Names.{year}
 use Rattle.model_sets.specs.Years.{is_year, number_of}
 use Rattle.model_sets.proofs.EndLaws.{least_is, greatest_is}
-use Rattle.named_equations.specs.Positions.{number_of_year}
 use Rattle.named_equations.specs.Salvage.{outlasts}
-use Rattle.named_equations.specs.Within.{IsYear}
-use Rattle.named_equations.specs.WrittenFactors.{life_of}
 
 -- ---- the first and the last year
 

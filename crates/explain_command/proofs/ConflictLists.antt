@@ -1,25 +1,7 @@
 -- The members of a conflict of a book are rows of the sets, and each of its plans has a value for each variable of the book.
-use Rattle.std.proofs.Common.{◌≡◌, suc, List, [], ◌∷◌, length, refl, ap, subst}
-use Rattle.std.specs.List.{AllByRecursion}
-use Rattle.exact_num.specs.Rational.{Rational}
-use Rattle.exact_num.specs.declared.fraction.Frac.{Frac}
-use Rattle.model_sets.specs.Members.{SetLists}
-use Rattle.row_core.specs.declared.Row.{Row}
-use Rattle.row_core.specs.declared.RowName.{RowName}
-use Rattle.row_core.specs.declared.Var.{Var}
+use Rattle.explain_command.proofs.Common.{◌≡◌, suc, List, [], ◌∷◌, length, refl, ap, subst, AllByRecursion, Rational, Frac, SetLists, Row, RowName, Var, keys_of, Contains-from_Has, Has, Has-from_Contains, all-from, all-has, HasNameWithin, IsListedBook, IsRowOfSets, rows-named, each-key, plan-named, AreNeeded, IsConflict, inequalities, Conflict, inequality-row}
 use Rattle.row_core.specs.Kinds.{IsKind}
 use Rattle.row_core.specs.NameTexts.{VariableIsWithin}
-use Rattle.row_core.specs.Numbers.{keys_of}
-use Rattle.row_core.proofs.Members.{Contains-from_Has, Has, Has-from_Contains}
-use Rattle.row_book.proofs.Lists.{all-from, all-has}
-use Rattle.row_book.specs.Books.{HasNameWithin}
-use Rattle.command_answers.specs.CheckedPlans.{IsListedBook}
-use Rattle.command_answers.specs.PlacesWithin.{IsRowOfSets}
-use Rattle.command_answers.proofs.ListedBooks.{rows-named}
-use Rattle.command_answers.proofs.BookPlaces.{each-key, plan-named}
-use Rattle.conflict_sets.specs.Conflicts.{AreNeeded, IsConflict, inequalities}
-use Rattle.conflict_sets.specs.declared.conflict.Conflict.{Conflict}
-use Rattle.conflict_sets.proofs.RowLists.{inequality-row}
 
 module _ (rows : List Row) (vars : List Var) where
   even : (names : List RowName) (members : List (RowName × Frac)) (plans : List (List (Var × Rational))) → AreNeeded rows vars names members plans → length members ≡ length plans

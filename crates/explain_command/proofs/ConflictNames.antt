@@ -1,26 +1,8 @@
 -- A conflict of the rows of a book is one of the named equations.
-use Rattle.std.proofs.Common.{◌≡◌, ℕ, true, false, List, [], ◌∷◌, map, refl, ap, ◌∙◌}
+use Rattle.explain_command.proofs.Common.{◌≡◌, ℕ, true, false, List, [], ◌∷◌, map, refl, ap, ◌∙◌, Rational, Frac, Data, Row, RowName, Var, keys_of, valued, instances, variable_of, Contains-from_Has, Has, Has-from_Contains, Has-map, IsBook, is_unequal, placed, IsBookOf, AdmitsSome, AreNeeded, IsConflict, inequalities, is_member, Conflict, inequality-row, HavePlans, IsNamedConflict, SomeIsFeasible}
 use Rattle.std.specs.Prelude.{Option, Some, None, Contains}
-use Rattle.exact_num.specs.Rational.{Rational}
-use Rattle.exact_num.specs.declared.fraction.Frac.{Frac}
-use Rattle.model_sets.specs.Data.{Data}
-use Rattle.row_core.specs.declared.Row.{Row}
-use Rattle.row_core.specs.declared.RowName.{RowName}
-use Rattle.row_core.specs.declared.Var.{Var}
-use Rattle.row_core.specs.Numbers.{keys_of}
-use Rattle.row_core.specs.Plans.{valued}
-use Rattle.named_equations.specs.Instances.{instances, variable_of}
-use Rattle.row_core.proofs.Members.{Contains-from_Has, Has, Has-from_Contains, Has-map}
 use Rattle.row_book.proofs.Within.{names-of_rows}
-use Rattle.row_book.specs.Kept.{IsBook}
-use Rattle.row_problem.specs.Sizes.{is_unequal}
-use Rattle.command_answers.proofs.BookProblems.{placed}
-use Rattle.command_answers.specs.CheckedPlans.{IsBookOf}
 use Rattle.command_answers.proofs.CheckedRows.{feasible-from_rows as feasible-from_all, vars-are}
-use Rattle.conflict_sets.specs.Conflicts.{AdmitsSome, AreNeeded, IsConflict, inequalities, is_member}
-use Rattle.conflict_sets.specs.declared.conflict.Conflict.{Conflict}
-use Rattle.conflict_sets.proofs.RowLists.{inequality-row}
-use Rattle.explain_command.specs.NamedConflicts.{HavePlans, IsNamedConflict, SomeIsFeasible}
 use Rattle.explain_command.proofs.NamedRows.{feasible-from_rows, rows-from_feasible}
 
 pub keys-valued : (es : List (RowName × Frac)) → keys_of (map valued es) ≡ keys_of es

@@ -1,33 +1,11 @@
 -- What is due for what the trials found over a book of rows, and for the first stop, over the named equations.
-use Rattle.std.proofs.Common.{◌≡◌, ◌⊎◌, ℕ, List, map, Option, Some, None, Result, Ok, Err, inl, inr, refl, sym, subst, ap, ◌∙◌}
-use Rattle.std.specs.Prelude.{IfErr, IfNone, IfOk, IfSome}
-use Rattle.exact_num.specs.Steps.{first_wide}
-use Rattle.model_sets.specs.Data.{Data}
-use Rattle.model_sets.specs.Members.{SetLists}
-use Rattle.row_core.specs.declared.Row.{Row}
-use Rattle.row_core.specs.declared.Var.{Var}
-use Rattle.row_core.specs.declared.place.Place.{Place}
-use Rattle.row_core.specs.Plans.{valued}
-use Rattle.row_book.specs.Kept.{IsBook}
-use Rattle.written_method.specs.Eliminated.{elimination_steps}
-use Rattle.simplex_core.specs.declared.stops.Stop.{Stop}
-use Rattle.simplex_core.specs.declared.stops.Stop.TheVariants.{Width}
-use Rattle.command_answers.specs.CheckedPlans.{IsBookOf}
-use Rattle.command_answers.specs.Definers.{definers}
+use Rattle.explain_command.proofs.Common.{◌≡◌, ◌⊎◌, ℕ, List, map, Option, Some, None, Result, Ok, Err, inl, inr, refl, sym, subst, ap, ◌∙◌, IfErr, IfNone, IfOk, IfSome, first_wide, Data, SetLists, Row, Var, Place, valued, IsBook, elimination_steps, Stop, Width, IsBookOf, definers, vars-are, SolveMethod, Exact, Rounded, AdmitsSome, IsConflict, StopsSome, Explanation, IsStopped, Stops, explained, explanation_seen, Conflict, DueForMethod, Finds, HasConflict, HasFeasible, IsCauseOf}
 use Rattle.command_answers.specs.Lines.{uncertified_line}
 use Rattle.command_answers.specs.declared.status.Status.{Status}
 use Rattle.command_answers.specs.declared.status.Status.TheVariants.{Uncertified}
-use Rattle.command_answers.proofs.CheckedRows.{vars-are}
-use Rattle.command_words.specs.declared.command.SolveMethod.{SolveMethod}
-use Rattle.command_words.specs.declared.command.SolveMethod.TheVariants.{Exact, Rounded}
-use Rattle.conflict_sets.specs.Conflicts.{AdmitsSome, IsConflict}
-use Rattle.conflict_sets.specs.RoundedStops.{StopsSome}
-use Rattle.conflict_sets.specs.Walks.{Explanation, IsStopped, Stops, explained, explanation_seen}
-use Rattle.conflict_sets.specs.declared.conflict.Conflict.{Conflict}
 use Rattle.conflict_sets.specs.declared.conflict.ExplainFail.{ExplainFail}
 use Rattle.conflict_sets.specs.declared.conflict.ExplainFail.TheVariants as fails
 use Rattle.explain_command.specs.declared.explain.Wanted.{Wanted}
-use Rattle.explain_command.specs.Explain.{DueForMethod, Finds, HasConflict, HasFeasible, IsCauseOf}
 use Rattle.explain_command.specs.Outcomes.{FindingTells, RunTells, TellsFound}
 use Rattle.explain_command.proofs.ConflictNames.{named-conflict, some-feasible}
 use Rattle.explain_command.proofs.ShownLaws.{shown-conflict}

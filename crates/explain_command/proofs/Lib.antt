@@ -1,3 +1,4 @@
+pub mod Common
 mod NamedRows
 mod ConflictNames
 mod ConflictLists

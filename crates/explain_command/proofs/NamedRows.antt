@@ -1,28 +1,13 @@
 -- The rows of a trial of a book hold of a plan exactly where it meets the definitions and the inequalities that are listed.
-use Rattle.std.proofs.Common.{◌≡◌, ℕ, ℤ, pos, ◌*ℤ◌, Bool, true, false, not, ◌||◌, List, [], ◌∷◌, inl, inr, refl, sym, ap, ◌∙◌, subst}
+use Rattle.explain_command.proofs.Common.{◌≡◌, ℕ, ℤ, pos, ◌*ℤ◌, Bool, true, false, not, ◌||◌, List, [], ◌∷◌, inl, inr, refl, sym, ap, ◌∙◌, subst, Data, Row, RowName, Var, instances, variable_of, Contains-from_Has, Has, Has-from_Contains, AreRowsOf, IsBook, is_unequal, placed, IsBookOf, sign-at, signs-each, is_taken, rows_with, FeasibleWith, MeetsAsked, is_asked}
 use Rattle.std.specs.Prelude.{Option, Some, None, is_some}
 use Rattle.std.proofs.lemmas.Bool.{cases_Bool, or_cases, or_right}
-use Rattle.model_sets.specs.Data.{Data}
-use Rattle.row_core.specs.declared.Row.{Row}
-use Rattle.row_core.specs.declared.RowName.{RowName}
 use Rattle.row_core.specs.declared.Sense.{Sense}
 use Rattle.row_core.specs.declared.Sense.TheVariants.{Equal}
-use Rattle.row_core.specs.declared.Var.{Var}
 use Rattle.row_core.specs.Rows.{RowHolds, row_sum}
 use Rattle.row_core.specs.Statements.{Stands}
-use Rattle.named_equations.specs.Instances.{instances, variable_of}
-use Rattle.row_core.proofs.Members.{Contains-from_Has, Has, Has-from_Contains}
-use Rattle.row_book.specs.Books.{AreRowsOf}
 use Rattle.row_book.specs.Definitions.{IsRepeatedIn}
-use Rattle.row_book.specs.Kept.{IsBook}
 use Rattle.certificate_checker.specs.Plans.{AllStand, MeetsAll}
-use Rattle.row_problem.specs.Sizes.{is_unequal}
-use Rattle.command_answers.proofs.BookProblems.{placed}
-use Rattle.command_answers.specs.CheckedPlans.{IsBookOf}
-use Rattle.command_answers.proofs.CheckedRows.{sign-at, signs-each}
-use Rattle.conflict_sets.specs.Pieces.{is_taken}
-use Rattle.conflict_sets.specs.Trials.{rows_with}
-use Rattle.explain_command.specs.NamedConflicts.{FeasibleWith, MeetsAsked, is_asked}
 
 abbrev right_of : ℕ → Row → ℤ
 right_of q row = row.rhs *ℤ pos q

@@ -1,16 +1,7 @@
 -- What is printed of a conflict is part of what refutes it.
-use Rattle.std.proofs.Common.{◌≡◌, List, map, subst}
+use Rattle.explain_command.proofs.Common.{◌≡◌, List, map, subst, Rational, Frac, Row, RowName, Var, value_in, valued, Contains-from_Has, Has, Has-from_Contains, map_parts, IsConflict, Conflict}
 use Rattle.std.specs.Prelude.{◌≢◌, Contains, pos}
-use Rattle.exact_num.specs.Rational.{Rational}
-use Rattle.exact_num.specs.declared.fraction.Frac.{Frac}
-use Rattle.row_core.specs.declared.Row.{Row}
-use Rattle.row_core.specs.declared.RowName.{RowName}
-use Rattle.row_core.specs.declared.Var.{Var}
 use Rattle.row_core.specs.Order.{row_name_cmp}
-use Rattle.row_core.specs.Plans.{value_in, valued}
-use Rattle.row_core.proofs.Members.{Contains-from_Has, Has, Has-from_Contains, map_parts}
-use Rattle.conflict_sets.specs.Conflicts.{IsConflict}
-use Rattle.conflict_sets.specs.declared.conflict.Conflict.{Conflict}
 use Rattle.explain_command.specs.ShownConflicts.{AreShown}
 use Rattle.explain_command.proofs.ConflictNames.{keys-valued}
 

@@ -1,13 +1,5 @@
 -- Lines one after another.
-use Rattle.std.proofs.Common.{◌≡◌, ℕ, ◌+◌, ◌<◌, List, [], ◌∷◌, ◌++◌, length, map, drop, get_or, refl, sym, ap, ◌∙◌, append_assoc}
-use Rattle.std.proofs.lemmas.List.{drop_more}
-use Rattle.exact_num.specs.Rational.{Rational}
-use Rattle.exact_num.specs.declared.fraction.Frac.{Frac}
-use Rattle.model_sets.specs.Members.{SetLists}
-use Rattle.row_core.specs.declared.RowName.{RowName}
-use Rattle.row_core.specs.declared.Var.{Var}
-use Rattle.row_core.specs.Plans.{valued}
-use Rattle.explain_command.specs.Texts.{all_plan_lines, plan_lines}
+use Rattle.explain_command.proofs.Common.{◌≡◌, ℕ, ◌+◌, ◌<◌, List, [], ◌∷◌, ◌++◌, length, map, drop, get_or, refl, sym, ap, ◌∙◌, append_assoc, drop_more, Rational, Frac, SetLists, RowName, Var, valued, all_plan_lines, plan_lines}
 
 -- a plan more
 module _ (sets : SetLists) (members : List (RowName × Frac)) (plans : List (List (Var × Rational))) where

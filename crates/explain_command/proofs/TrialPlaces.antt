@@ -1,35 +1,12 @@
 -- The place at which a trial stops is that of a row or a variable of the sets, so its name can be written.
-use Rattle.std.proofs.Common.{◌≡◌, ℕ, ◌+◌, Bool, true, false, List, [], ◌∷◌, ◌++◌, map, filter, Option, Some, None, inl, inr, refl, sym, subst, if◌then◌else◌}
-use Rattle.std.specs.Prelude.{⊤}
-use Rattle.std.specs.List.{AllByRecursion}
-use Rattle.exact_num.specs.Rational.{Rational}
-use Rattle.exact_num.specs.Steps.{Step, first_wide}
-use Rattle.model_sets.specs.Members.{SetLists}
-use Rattle.row_core.specs.declared.Row.{Row}
-use Rattle.row_core.specs.declared.RowName.{RowName}
-use Rattle.row_core.specs.declared.Var.{Var}
-use Rattle.row_core.specs.declared.place.Place.{Place}
-use Rattle.row_book.specs.Books.{HasNameWithin, IsWithinSets}
-use Rattle.row_book.proofs.Lists.{AllByRecursion-filter, AllByRecursion-from_map, AllByRecursion-map, AllByRecursion-weaker}
+use Rattle.explain_command.proofs.Common.{◌≡◌, ℕ, ◌+◌, Bool, true, false, List, [], ◌∷◌, ◌++◌, map, filter, Option, Some, None, inl, inr, refl, sym, subst, if◌then◌else◌, ⊤, AllByRecursion, Rational, Step, first_wide, SetLists, Row, RowName, Var, Place, HasNameWithin, IsWithinSets, AllByRecursion-filter, AllByRecursion-from_map, AllByRecursion-map, AllByRecursion-weaker, ReducedRow, elimination_steps, is_column, Stop, Budget, Width, Trial, definers, IsRowOfSets, IsVariableOfSets, PlaceIsWithin, StopIsWithin, is_taken, HasNone, HasPlan, IsPivotDue, IsWide, TrialEnd, carried_trial, plan_checks, rows_tried, rows_with, trial_end, trial_program, tried_multipliers, tried_steps, unless_stopped, IsStopOfSome, Explanation, IsFeasible, IsStopped, Needed, every, explained, explanation, is_listed, is_other, listed_names, walk, SolveMethod, Exact, Rounded, IsCauseOf}
 use Rattle.certificate_checker.specs.Costs.{model_cost}
 use Rattle.written_method.specs.Definitions.{definitions_of}
-use Rattle.written_method.specs.Eliminated.{ReducedRow, elimination_steps, is_column}
 use Rattle.written_method.specs.Multiplied.{scaled_multipliers, scaled_steps}
 use Rattle.written_method.specs.Solved.{IsInfeasible, IsOptimal, IsOutOfPivots, IsTooWide, IsUnbounded, Outcome, solved}
-use Rattle.simplex_core.specs.declared.stops.Stop.{Stop}
-use Rattle.simplex_core.specs.declared.stops.Stop.TheVariants.{Budget, Width, Trial}
 use Rattle.simplex_core.specs.declared.stops.TrialStop.TheVariants as trials
-use Rattle.command_answers.specs.Definers.{definers}
 use Rattle.row_problem.specs.Programs.{carried_plan, name_left, plan_steps, rows_left, scale_left}
-use Rattle.command_answers.specs.PlacesWithin.{IsRowOfSets, IsVariableOfSets, PlaceIsWithin, StopIsWithin}
 use Rattle.command_answers.proofs.KeptPlaces.{AreStepsKept, DefinesKept, OutcomeIsKept, all-passed, both-kept, defined-kept, definitions-kept, elimination-kept, names-left, plan-kept, plan-steps-kept, refutation-checked, scaled-kept, solved-kept, wide-kept}
-use Rattle.conflict_sets.specs.Pieces.{is_taken}
-use Rattle.conflict_sets.specs.Trials.{HasNone, HasPlan, IsPivotDue, IsWide, TrialEnd, carried_trial, plan_checks, rows_tried, rows_with, trial_end, trial_program, tried_multipliers, tried_steps, unless_stopped}
-use Rattle.conflict_sets.specs.RoundedStops.{IsStopOfSome}
-use Rattle.conflict_sets.specs.Walks.{Explanation, IsFeasible, IsStopped, Needed, every, explained, explanation, is_listed, is_other, listed_names, walk}
-use Rattle.command_words.specs.declared.command.SolveMethod.{SolveMethod}
-use Rattle.command_words.specs.declared.command.SolveMethod.TheVariants.{Exact, Rounded}
-use Rattle.explain_command.specs.Explain.{IsCauseOf}
 
 module _ (sets : SetLists) (rows : List Row) (vars : List Var) (define : AllByRecursion (DefinesKept sets (IsRowOfSets sets)) rows) (listed_vars : AllByRecursion (IsWithinSets sets) vars) where
   named : AllByRecursion (HasNameWithin sets) rows

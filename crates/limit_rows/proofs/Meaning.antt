@@ -1,26 +1,16 @@
 -- The terms of each equation of limits, reserve margin and renewable target mean it.
-use Rattle.std.proofs.Common.{◌≡◌, ◌≢◌, ◌≤◌, true, ℕ, ℤ, pos, ◌*ℤ◌, List, Some, None, refl, ap, arith}
+use Rattle.limit_rows.proofs.Common.{◌≡◌, ◌≢◌, ◌≤◌, true, ℕ, ℤ, pos, ◌*ℤ◌, List, Some, None, refl, ap, arith, TCC1, TCC2, NCC1, NCC2, AAC1, AAC2, AAC3, TAC1, TAC2, TAC3, RM1, RM2, RM3, RE1, RE2, RE3, RE4, RE5, Var, Amount, Billionths, value_of_amount, name_at, stands_at, variable_of, year_split, capacity_to_activity_unit, total_annual_max_capacity, total_annual_min_capacity, total_annual_max_capacity_investment, total_annual_min_capacity_investment, total_technology_annual_activity_upper_limit, total_technology_annual_activity_lower_limit, total_technology_model_period_activity_upper_limit, total_technology_model_period_activity_lower_limit, reserve_margin_tag_technology, reserve_margin, re_tag_technology, re_tag_fuel, re_min_production_target, technologies, fuels, timeslices, all_years, produced_fuels, producing_technologies, produces, MeansStatement, IsNamedEquation, EachFrom, at_number, definition_is, inequality_is, limit, sum_of_others, sum_of_others-defines, weighted_sum, weighted_sum-defines, over-data, part_for_target, re2, IsLimitEquation, terms_at}
 use Rattle.std.specs.Prelude.{◌<ℤ◌}
 use Rattle.std.proofs.lemmas.Int.{ints}
 use Rattle.model_sets.specs.Data.{Data}
-use Rattle.row_core.specs.declared.equation_numbers.TheConstants.{TCC1, TCC2, NCC1, NCC2, AAC1, AAC2, AAC3, TAC1, TAC2, TAC3, RM1, RM2, RM3, RE1, RE2, RE3, RE4, RE5}
 use Rattle.row_core.specs.declared.Index.{Index}
 use Rattle.row_core.specs.declared.RowName.{RowName}
 use Rattle.row_core.specs.declared.Sense.TheVariants.{Least, Most}
-use Rattle.row_core.specs.declared.Var.{Var}
-use Rattle.row_core.specs.Amounts.{Amount, Billionths, value_of_amount}
 use Rattle.row_core.specs.Values.{IsOver, alone}
-use Rattle.named_equations.specs.Instances.{name_at, stands_at, variable_of}
 use Rattle.named_equations.specs.Notation.{sum_over, scale_of}
-use Rattle.named_equations.specs.Parameters.{year_split, capacity_to_activity_unit, total_annual_max_capacity, total_annual_min_capacity, total_annual_max_capacity_investment, total_annual_min_capacity_investment, total_technology_annual_activity_upper_limit, total_technology_annual_activity_lower_limit, total_technology_model_period_activity_upper_limit, total_technology_model_period_activity_lower_limit, reserve_margin_tag_technology, reserve_margin, re_tag_technology, re_tag_fuel, re_min_production_target}
-use Rattle.named_equations.specs.Positions.{technologies, fuels, timeslices, all_years}
 use Rattle.named_equations.specs.Plans.{says}
 use Rattle.named_equations.specs.Variables.{new_capacity, total_capacity_annual, rate_of_production, total_technology_annual_activity, total_technology_model_period_activity, total_capacity_in_reserve_margin, demand_needing_reserve_margin, production_by_technology_annual, total_re_production_annual, re_total_production_of_target_fuel_annual}
-use Rattle.named_equations.specs.Where.{produced_fuels, producing_technologies, produces}
-use Rattle.named_equations.proofs.TermMeaning.{MeansStatement, IsNamedEquation, EachFrom, at_number, definition_is, inequality_is, limit, sum_of_others, sum_of_others-defines, weighted_sum, weighted_sum-defines, over-data}
-use Rattle.limit_rows.specs.RenewableTarget.{part_for_target, re2}
 use Rattle.limit_rows.specs.ReserveMargin.{unit_in_margin}
-use Rattle.limit_rows.specs.Rows.{IsLimitEquation, terms_at}
 use Rattle.named_equations.proofs.SumExchange.{sum_over-exchanged}
 use Rattle.named_equations.proofs.TermShapes.{means_equal, means_equal-defines, over-product, sum_of_products, sum_of_products-defines, sum_of_sums, sum_of_sums-defines, covered, covered_after}
 

@@ -1,25 +1,6 @@
 -- Two proofs that can be accepted are compared: what is due for them is that.
-use Rattle.std.proofs.Common.{◌≡◌, ◌⊎◌, ℕ, inl, inr, List, subst}
-use Rattle.model_sets.specs.Data.{Data}
-use Rattle.row_core.specs.declared.RowName.{RowName}
-use Rattle.row_core.specs.declared.Var.{Var}
-use Rattle.exact_num.specs.Rational.{Rational}
-use Rattle.named_equations.specs.Existence.{all_variables}
-use Rattle.named_equations.specs.Instances.{instances}
-use Rattle.plan_files.specs.Files.{records_of}
-use Rattle.proof_files.specs.declared.proof.Proof.{Proof}
-use Rattle.proof_files.specs.declared.proof.Proof.TheVariants.{Optimum}
-use Rattle.proof_files.specs.Proofs.{IsProof}
-use Rattle.command_words.specs.declared.command.CompareShow.{CompareShow}
-use Rattle.command_answers.specs.MadeBooks.{HasNoRows}
+use Rattle.osemosys_run.proofs.Common.{◌≡◌, ◌⊎◌, ℕ, inl, inr, List, subst, Data, RowName, Var, Rational, all_variables, instances, records_of, Proof, Optimum, IsProof, CompareShow, HasNoRows, Status, Done, DueOfCheck, IsJudged, IsRefused, ComparesProofs, Judged, Which, CheckedBy, DueForCompared, ProvesOptimum}
 use Rattle.command_answers.specs.MadeRows.{IsMadeFor}
-use Rattle.command_answers.specs.declared.status.Status.{Status}
-use Rattle.command_answers.specs.declared.status.Status.TheVariants.{Done}
-use Rattle.compare_command.specs.Compare.{DueOfCheck, IsJudged, IsRefused}
-use Rattle.compare_command.specs.Compared.{ComparesProofs, Judged}
-use Rattle.compare_command.specs.declared.scenarios.Which.{Which}
-use Rattle.osemosys_run.specs.Compared.{CheckedBy, DueForCompared}
-use Rattle.osemosys_run.specs.Complete.{ProvesOptimum}
 use Rattle.osemosys_run.proofs.Completeness.{Laws, no_rows, over_accepted}
 use Rattle.osemosys_run.proofs.ShownCompleteness.{file_accepted, same}
 

@@ -1,35 +1,12 @@
 -- Where `compare` ends with status 0, `check` accepts two optima, so the costs of its text are those of plans, and its bounds hold of all plans.
-use Rattle.std.proofs.Common.{◌≡◌, ℕ, ℤ, pos, neg_ℤ, ◌<ℤ◌, ◌++◌, inl, inr, List, Some, refl, sym, ◌∙◌, subst, append_assoc}
-use Rattle.std.specs.Prelude.{codes}
-use Rattle.std.specs.List.{flat_map}
-use Rattle.exact_num.specs.Rational.{Rational}
+use Rattle.osemosys_run.proofs.Common.{◌≡◌, ℕ, ℤ, pos, neg_ℤ, ◌<ℤ◌, ◌++◌, inl, inr, List, Some, refl, sym, ◌∙◌, subst, append_assoc, codes, flat_map, Rational, Data, Row, RowName, Var, all_variables, instances, records_of, Proof, Optimum, Refutation, Descent, IsProof, Status, Done, AreFeasible, BoundsFeasible, DueForPlan, multiplier_bound, plan_cost, DueForProofFile, DueForProofTold, ProofLaws, CompareShow, IsJudged, ComparesProofs, IsComparison, IsScenario, Judged, Shows, CheckedBy, ComeFirst, DueForCompared, IsPromisedDifference}
 use Rattle.exact_num.specs.Value.{value_of}
-use Rattle.model_sets.specs.Data.{Data}
-use Rattle.row_core.specs.declared.Row.{Row}
-use Rattle.row_core.specs.declared.RowName.{RowName}
-use Rattle.row_core.specs.declared.Var.{Var}
-use Rattle.named_equations.specs.Existence.{all_variables}
-use Rattle.named_equations.specs.Instances.{instances}
-use Rattle.plan_files.specs.Files.{records_of}
-use Rattle.proof_files.specs.declared.proof.Proof.{Proof}
-use Rattle.proof_files.specs.declared.proof.Proof.TheVariants.{Optimum, Refutation, Descent}
-use Rattle.proof_files.specs.Proofs.{IsProof}
-use Rattle.command_answers.specs.declared.status.Status.{Status}
-use Rattle.command_answers.specs.declared.status.Status.TheVariants.{Done}
-use Rattle.command_answers.specs.CheckedPlans.{AreFeasible, BoundsFeasible}
-use Rattle.check_command.specs.Check.{DueForPlan, multiplier_bound, plan_cost}
-use Rattle.check_command.specs.CheckProof.{DueForProofFile, DueForProofTold}
-use Rattle.check_command.proofs.AcceptedProofs.{ProofLaws}
-use Rattle.command_words.specs.declared.command.CompareShow.{CompareShow}
 use Rattle.command_words.specs.declared.command.CompareShow.TheVariants.{Page, Text}
 use Rattle.plan_compare.specs.declared.scenario.Scenario.{Scenario}
 use Rattle.plan_compare.specs.Comparisons.{compared_kinds, head_of, kind_text, members_text}
 use Rattle.plan_compare.specs.Scenarios.{side_of}
 use Rattle.plan_compare.specs.Heads.{at_least, at_most}
 use Rattle.plan_compare.specs.LeastCosts.{IsAtLeastDifference, IsAtMostDifference, IsBound, IsCost, IsLeastCost, raised}
-use Rattle.compare_command.specs.Compare.{IsJudged}
-use Rattle.compare_command.specs.Compared.{ComparesProofs, IsComparison, IsScenario, Judged, Shows}
-use Rattle.osemosys_run.specs.Compared.{CheckedBy, ComeFirst, DueForCompared, IsPromisedDifference}
 
 -- what the line `difference` is worth, of any costs and bounds
 pub record CostLaws : Type 0 where

@@ -1,50 +1,15 @@
 -- A file that can be written is, and a plan that can be accepted is: what is due for them is that.
-use Rattle.std.proofs.Common.{◌≡◌, ◌⊎◌, ◌<◌, ◌<ℤ◌, ◌++◌, ℕ, ℤ, pos, inl, inr, List, Option, Some, None, Result, refl, ap, sym, ◌∙◌, subst, arith}
-use Rattle.std.proofs.lemmas.Int.{ints}
-use Rattle.std.proofs.lemmas.Option.{same_Some}
-use Rattle.exact_num.specs.Rational.{Rational, whole}
-use Rattle.exact_num.specs.Steps.{first_wide}
-use Rattle.mathprog_data.specs.Meaning.{Blocks}
+use Rattle.osemosys_run.proofs.Common.{◌≡◌, ◌⊎◌, ◌<◌, ◌<ℤ◌, ◌++◌, ℕ, ℤ, pos, inl, inr, List, Option, Some, None, Result, refl, ap, sym, ◌∙◌, subst, arith, ints, same_Some, Rational, whole, first_wide, Blocks, Data, SetLists, Row, Var, row_name_cmp, var_cmp, value_in, all_variables, steps, cost_entries, model_cost, reason_of, bound-over, AreMultipliers, IsMultiplierFault, IsPlan, IsPlanFault, Fields, records_of, Proof, IsProof, IsProofFault, instances, RowName, Place, AreRowsOf, CanBeMade, HasStopped, BookFail, Status, Done, Accepted, IsWithinLimits, PassesLimits, DueBySize, HasNoRows, AreInGap, CanBeAccepted, CanBeWritten, DueForText, DueForCheck, DueForMultiplierFile, DueForPlan, DueForPlanFile, IsRejected, TellsMultipliers, check_conditions, multiplier_bound, plan_cost, DueForEquations, DueWhereNotAccepted}
 use Rattle.mathprog_data.specs.Verdicts.{Says}
-use Rattle.model_sets.specs.Data.{Data}
-use Rattle.model_sets.specs.Members.{SetLists}
-use Rattle.row_core.specs.declared.Row.{Row}
-use Rattle.row_core.specs.declared.Var.{Var}
-use Rattle.row_core.specs.Order.{row_name_cmp, var_cmp}
-use Rattle.row_core.specs.Plans.{value_in}
 use Rattle.row_core.proofs.EvaluatedLaws.{sum-IsOver}
-use Rattle.named_equations.specs.Existence.{all_variables}
 use Rattle.named_equations.specs.Plans.{Feasible}
 use Rattle.certificate_checker.specs.declared.verdicts.Verdict.TheVariants as verdicts
-use Rattle.certificate_checker.specs.Conditions.{steps}
-use Rattle.certificate_checker.specs.Costs.{cost_entries, model_cost}
 use Rattle.certificate_checker.specs.Plans.{AreValuesOver}
-use Rattle.certificate_checker.specs.Reasons.{reason_of}
 use Rattle.certificate_checker.proofs.CertificateMeaning.{bound_no}
 use Rattle.certificate_checker.proofs.GapLaws.{gap_no}
-use Rattle.certificate_checker.proofs.MultiplierMeaning.{bound-over}
 use Rattle.row_core.proofs.SumLaws.{IsOver-zero}
 use Rattle.plan_files.specs.declared.faults.PlanFault.{PlanFault}
-use Rattle.plan_files.specs.Answers.{AreMultipliers, IsMultiplierFault, IsPlan, IsPlanFault}
-use Rattle.plan_files.specs.Files.{Fields, records_of}
-use Rattle.proof_files.specs.declared.proof.Proof.{Proof}
-use Rattle.proof_files.specs.Proofs.{IsProof, IsProofFault}
-use Rattle.named_equations.specs.Instances.{instances}
-use Rattle.row_core.specs.declared.RowName.{RowName}
-use Rattle.row_core.specs.declared.place.Place.{Place}
-use Rattle.row_book.specs.Books.{AreRowsOf, CanBeMade, HasStopped}
-use Rattle.row_book.specs.declared.fail.BookFail.{BookFail}
 use Rattle.row_book.specs.declared.fail.BookFail.TheVariants as book
-use Rattle.command_answers.specs.declared.status.Status.{Status}
-use Rattle.command_answers.specs.declared.status.Status.TheVariants.{Done}
-use Rattle.command_answers.specs.Accepted.{Accepted}
-use Rattle.command_answers.specs.Limits.{IsWithinLimits, PassesLimits}
-use Rattle.command_answers.specs.MadeBooks.{DueBySize, HasNoRows}
-use Rattle.osemosys_run.specs.Complete.{AreInGap, CanBeAccepted, CanBeWritten}
-use Rattle.command_answers.specs.DueForText.{DueForText}
-use Rattle.check_command.specs.Check.{DueForCheck, DueForMultiplierFile, DueForPlan, DueForPlanFile, IsRejected, TellsMultipliers, check_conditions, multiplier_bound, plan_cost}
-use Rattle.osemosys_run.specs.Mps.{DueForEquations}
-use Rattle.command_answers.specs.NotAccepted.{DueWhereNotAccepted}
 use Rattle.check_command.proofs.OutcomeLaws.{fails-parts, of_bound, of_gap, of_plan}
 
 -- what the laws of acceptance, of files of plans and proofs, and of the book say

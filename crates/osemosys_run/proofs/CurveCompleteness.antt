@@ -1,25 +1,13 @@
 -- Where nothing stops the trial of any limit, a curve is told whole.
-use Rattle.std.proofs.Common.{◌≡◌, ℕ, ℤ, ◌+◌, inl, inr, List, [], ◌∷◌, ◌++◌, Option, Some, None, refl, sym, ◌∙◌, ap, subst}
-use Rattle.std.specs.List.{AllByRecursion}
-use Rattle.model_sets.specs.Data.{Data}
-use Rattle.model_sets.specs.Members.{index_of, members}
-use Rattle.model_sets.specs.declared.set_numbers.TheConstants.{EMISSION, REGION}
-use Rattle.row_core.specs.declared.place.Place.{Place}
-use Rattle.named_equations.specs.Instances.{instances}
+use Rattle.osemosys_run.proofs.Common.{◌≡◌, ℕ, ℤ, ◌+◌, inl, inr, List, [], ◌∷◌, ◌++◌, Option, Some, None, refl, sym, ◌∙◌, ap, subst, AllByRecursion, Data, index_of, members, EMISSION, REGION, Place, instances, SolveMethod, DueForText, Status, Done, DueForCurve, DueForLimits, limits_in, CanBeDrawn, CanBeTried}
 use Rattle.row_book.specs.declared.fail.BookFail.TheVariants as book
 use Rattle.simplex_core.specs.declared.stops.TrialStop.{TrialStop}
-use Rattle.command_words.specs.declared.command.SolveMethod.{SolveMethod}
-use Rattle.command_answers.specs.DueForText.{DueForText}
-use Rattle.command_answers.specs.declared.status.Status.{Status}
-use Rattle.command_answers.specs.declared.status.Status.TheVariants.{Done}
 use Rattle.emission_curve.specs.Ends.{HasLine, HasLineBelow, HasNoBound, HasNoPlan, IsStopped, PointEnd}
 use Rattle.emission_curve.specs.Points.{EndIsRounded}
-use Rattle.curve_command.specs.Curve.{DueForCurve, DueForLimits, limits_in}
 use Rattle.curve_command.specs.CurveTexts.{Found, else_stop, first_stop, status_for, stop_of}
 use Rattle.curve_command.specs.Limited.{limit_at, with_limit}
 use Rattle.curve_command.specs.Trials.{EndsSo, IsTrialOf}
 use Rattle.curve_command.specs.declared.trials.Wanted.{Wanted}
-use Rattle.osemosys_run.specs.Complete.{CanBeDrawn, CanBeTried}
 use Rattle.osemosys_run.proofs.Completeness.{Laws, no_rows, not_too_large, over_accepted}
 
 -- what holds of all holds of one among them

@@ -1,34 +1,14 @@
 -- What is due for worked examples: the words, the files, the status and the text; and what isn't.
-use Rattle.std.proofs.Common.{◌≡◌, ℕ, zero, suc, ◌+◌, ◌<◌, ◌≤◌, ◌-◌, ◌^◌, List, [], ◌∷◌, ◌++◌, length, take, refl, sym, ap, subst, arith, inl, inr, Bool, true, false, MatchBool, nat_lt}
+use Rattle.osemosys_run.proofs.Common.{◌≡◌, ℕ, zero, suc, ◌+◌, ◌<◌, ◌≤◌, ◌-◌, ◌^◌, List, [], ◌∷◌, ◌++◌, length, take, refl, sym, ap, subst, arith, inl, inr, Bool, true, false, MatchBool, nat_lt, Data, Status, Done, Refused, Words, ReadFault, WriteFault, Memory, Rejected, Rose, output, asked, most_bytes, DueForText, too_long_line, DueWhereNotAccepted, Stops, StopsAt, BeganOne, HasFailed, IsTooLong, part_of_file, refused_file, whole_file, Sight, ReadEnd, Completes, AskForEquations, Due, DueForFile, DueForEquations, Caused, TellsEnd, IsReadToEnd, Delivers, Sent}
 use Rattle.std.specs.Prelude.{codes, Option, Some, None, ⊤}
 use Rattle.std.specs.Fmt.{digits}
-use Rattle.model_sets.specs.Data.{Data}
 use Rattle.mathprog_data.specs.declared.fault.DataFault.{DataFault}
-use Rattle.command_answers.specs.declared.status.Status.{Status}
-use Rattle.command_answers.specs.declared.status.Status.TheVariants.{Done, Refused, Words, ReadFault, WriteFault, Memory, Rejected}
 use Rattle.command_answers.specs.declared.status.Refusal.TheVariants as refusals
 use Rattle.command_words.specs.declared.fault.WordFault.TheVariants as faults
 use Rattle.command_answers.specs.declared.status.ReadStop.TheVariants as stops
-use Rattle.io_edges.specs.Count.{Rose}
 use Rattle.io_edges.specs.Moved.{MovedFile}
-use Rattle.io_edges.specs.Outputs.{output}
 use Rattle.certificate_checker.specs.declared.verdicts.Rejection.{Rejection}
-use Rattle.command_words.specs.Words.{asked}
-use Rattle.command_answers.specs.Accepted.{most_bytes}
-use Rattle.command_answers.specs.DueForText.{DueForText}
-use Rattle.command_answers.specs.Lines.{too_long_line}
-use Rattle.command_answers.specs.NotAccepted.{DueWhereNotAccepted}
-use Rattle.request_files.specs.InTurn.{Stops, StopsAt}
-use Rattle.request_files.specs.Reading.{BeganOne, HasFailed, IsTooLong, part_of_file, refused_file, whole_file}
-use Rattle.request_files.specs.Sights.{Sight}
-use Rattle.request_files.specs.declared.whole.ReadEnd.{ReadEnd}
 use Rattle.request_files.specs.declared.whole.ReadEnd.TheVariants as ends
-use Rattle.osemosys_run.specs.Complete.{Completes}
-use Rattle.osemosys_run.specs.Due.{AskForEquations, Due, DueForFile}
-use Rattle.osemosys_run.specs.Mps.{DueForEquations}
-use Rattle.osemosys_run.specs.Causes.{Caused, TellsEnd}
-use Rattle.osemosys_run.specs.ReadToEnd.{IsReadToEnd}
-use Rattle.osemosys_run.specs.Sending.{Delivers, Sent}
 use Rattle.osemosys_run.proofs.RunLaws.{read-all}
 
 -- ---- what is due

@@ -1,8 +1,7 @@
 -- What the words of the command line ask for, computed on examples.
-use Rattle.std.proofs.Common.{◌≡◌, false, [], ◌∷◌, Some, None, refl}
+use Rattle.osemosys_run.proofs.Common.{◌≡◌, false, [], ◌∷◌, Some, None, refl, Check, Mps, asked, names_of}
 use Rattle.std.specs.Prelude.{codes, Ok, Err}
 use Rattle.command_words.specs.declared.fault.WordFault.TheVariants.{NoCommand, BadCommand, BadForm, BadNumber, GapAlone}
-use Rattle.command_words.specs.Words.{Check, Mps, asked, names_of}
 use Rattle.command_words.specs.WordParts.{is_option}
 
 -- ---- `mps`, and words that ask for nothing

@@ -1,15 +1,7 @@
 -- A model of which nothing stops the trials is explained: some plan meets the named equations, or a conflict is told.
-use Rattle.std.proofs.Common.{ℕ, inl, inr, List}
-use Rattle.model_sets.specs.Data.{Data}
-use Rattle.row_core.specs.declared.Row.{Row}
-use Rattle.named_equations.specs.Existence.{all_variables}
-use Rattle.command_answers.specs.DueForText.{DueForText}
-use Rattle.command_answers.specs.declared.status.Status.{Status}
-use Rattle.command_words.specs.declared.command.SolveMethod.{SolveMethod}
-use Rattle.command_words.specs.declared.command.SolveMethod.TheVariants.{Exact, Rounded}
+use Rattle.osemosys_run.proofs.Common.{ℕ, inl, inr, List, Data, Row, all_variables, DueForText, Status, SolveMethod, Exact, Rounded, CanBeExplained, IsExplained}
 use Rattle.explain_command.specs.declared.explain.Wanted.{Wanted}
 use Rattle.explain_command.specs.Explain.{DueForExplain, DueForMethod, Finds, NothingStops}
-use Rattle.osemosys_run.specs.Complete.{CanBeExplained, IsExplained}
 use Rattle.osemosys_run.proofs.Completeness.{Laws, found_or_due, no_rows, over_accepted}
 
 -- what the words ask for

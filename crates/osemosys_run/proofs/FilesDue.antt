@@ -1,12 +1,6 @@
 -- What is due over files, by what is due over their contents.
-use Rattle.std.proofs.Common.{◌≡◌, ◌<◌, ◌≤◌, ◌+◌, ℕ, List, [], ◌∷◌, length, Option, Some, Bool, sym, subst, MatchBool, le-ltb, lt-ltb}
-use Rattle.command_answers.specs.declared.status.Status.{Status}
-use Rattle.command_answers.specs.declared.status.Status.TheVariants.{Refused}
+use Rattle.osemosys_run.proofs.Common.{◌≡◌, ◌<◌, ◌≤◌, ◌+◌, ℕ, List, [], ◌∷◌, length, Option, Some, Bool, sym, subst, MatchBool, le-ltb, lt-ltb, Status, Refused, most_bytes, too_long_line, AreThere, DueForFile, DueForFiles}
 use Rattle.command_answers.specs.declared.status.Refusal.TheVariants.{TooLong}
-use Rattle.command_answers.specs.Accepted.{most_bytes}
-use Rattle.command_answers.specs.Lines.{too_long_line}
-use Rattle.osemosys_run.specs.Complete.{AreThere}
-use Rattle.osemosys_run.specs.Due.{DueForFile, DueForFiles}
 
 -- what is due over the bytes of a file that isn't too long is due over the file
 pub short_file : (Over : List ℕ → Status → List ℕ → Type 0) (number : ℕ) (bytes : List ℕ) (status : Status) (text : List ℕ) → length bytes ≤ most_bytes

@@ -1,22 +1,6 @@
 -- From what `check` says of a proof over the rows of data to what is known of a scenario.
-use Rattle.std.proofs.Common.{◌≡◌, ◌≢◌, ◌++◌, ℕ, List, inl, inr, Result, Ok, Err, refl, sym, ◌∙◌, subst}
-use Rattle.std.specs.Prelude.{MatchResult}
-use Rattle.model_sets.specs.Data.{AreSameData, Data}
-use Rattle.model_sets.specs.Members.{SetLists}
-use Rattle.row_book.specs.Books.{Book}
-use Rattle.command_answers.specs.Accepted.{Accepted}
-use Rattle.command_answers.specs.MadeBooks.{HasNoRows, IsMadeBook}
-use Rattle.command_answers.specs.NotAccepted.{DueWhereNotAccepted}
-use Rattle.command_answers.specs.declared.answer.Answer.{Answer}
+use Rattle.osemosys_run.proofs.Common.{◌≡◌, ◌≢◌, ◌++◌, ℕ, List, inl, inr, Result, Ok, Err, refl, sym, ◌∙◌, subst, MatchResult, AreSameData, Data, SetLists, Book, Accepted, HasNoRows, IsMadeBook, DueWhereNotAccepted, Answer, Status, Done, TellsProof, DueOfCheck, IsJudged, IsRefused, IsOf, Judged, files_line, Which, CheckedBy, AcceptsOver, IsKept, IsUnkept, RefusesOver}
 use Rattle.command_answers.specs.declared.proved.AcceptedProof.{AcceptedProof}
-use Rattle.command_answers.specs.declared.status.Status.{Status}
-use Rattle.command_answers.specs.declared.status.Status.TheVariants.{Done}
-use Rattle.check_command.specs.AcceptedProofs.{TellsProof}
-use Rattle.compare_command.specs.Compare.{DueOfCheck, IsJudged, IsRefused}
-use Rattle.compare_command.specs.Compared.{IsOf, Judged, files_line}
-use Rattle.compare_command.specs.declared.scenarios.Which.{Which}
-use Rattle.osemosys_run.specs.Compared.{CheckedBy}
-use Rattle.osemosys_run.specs.Scenarios.{AcceptsOver, IsKept, IsUnkept, RefusesOver}
 
 -- ---- statuses
 

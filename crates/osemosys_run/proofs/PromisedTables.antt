@@ -1,54 +1,22 @@
 -- The multipliers of a proof that `check` accepts prove their bound, and so each price that `table` writes of them is promised.
-use Rattle.std.proofs.Common.{◌≡◌, ◌≢◌, ℕ, ℤ, pos, ◌<◌, List, [], ◌∷◌, ◌++◌, Option, None, Some, inl, inr, sym, ◌∙◌, ap, subst, refl, arith, rules}
+use Rattle.osemosys_run.proofs.Common.{◌≡◌, ◌≢◌, ℕ, ℤ, pos, ◌<◌, List, [], ◌∷◌, ◌++◌, Option, None, Some, inl, inr, sym, ◌∙◌, ap, subst, refl, arith, rules, AllByRecursion, ints, Rational, first_wide, Data, Row, RowName, Var, Place, row_name_cmp, value_in, all_variables, instances, AreRowsOf, AllPass, Condition, first_failing, steps, model_cost, Reason, bound-over, proves_from, AreGiven, Fields, GivesValue, record_of, records_of, Proof, Optimum, Refutation, Descent, IsProof, NumberForm, Done, DueOverRows, DueForPlan, multiplier_bound, plan_cost, DueForProofFile, DueForProofTold, ProofLaws, Shown, or_values, shown_named, DueForKnown, DueForTable, ShowsProof}
 use Rattle.std.specs.Prelude.{◌<ℤ◌, unsigned_abs, Contains}
-use Rattle.std.specs.List.{AllByRecursion}
-use Rattle.std.proofs.lemmas.Int.{ints}
-use Rattle.exact_num.specs.Rational.{Rational}
-use Rattle.exact_num.specs.Steps.{first_wide}
 use Rattle.exact_num.proofs.RationalLaws.{lowest-IsLowest}
 use Rattle.scaled_decimals.specs.FractionText.{bottom_of, top_of}
-use Rattle.model_sets.specs.Data.{Data}
-use Rattle.row_core.specs.declared.Row.{Row}
-use Rattle.row_core.specs.declared.RowName.{RowName}
-use Rattle.row_core.specs.declared.Var.{Var}
-use Rattle.row_core.specs.declared.place.Place.{Place}
-use Rattle.row_core.specs.Order.{row_name_cmp}
-use Rattle.row_core.specs.Plans.{value_in}
 use Rattle.row_core.specs.Values.{IsOver}
-use Rattle.named_equations.specs.Existence.{all_variables}
-use Rattle.named_equations.specs.Instances.{instances}
-use Rattle.row_book.specs.Books.{AreRowsOf}
 use Rattle.certificate_checker.specs.Certificates.{AreMultipliersOver, Proves, bound_of}
-use Rattle.certificate_checker.specs.Conditions.{AllPass, Condition, first_failing, steps}
-use Rattle.certificate_checker.specs.Costs.{model_cost}
 use Rattle.certificate_checker.specs.Denominators.{AreOverSome, HasPositiveBottom}
 use Rattle.certificate_checker.specs.Gaps.{gap_condition}
 use Rattle.certificate_checker.specs.MultiplierChecks.{bound_conditions}
 use Rattle.certificate_checker.specs.PlanChecks.{plan_conditions}
-use Rattle.certificate_checker.specs.Reasons.{Reason}
 use Rattle.certificate_checker.proofs.ConditionLaws.{fails_before, passed_first, wide_before}
-use Rattle.certificate_checker.proofs.MultiplierMeaning.{bound-over, proves_from}
-use Rattle.plan_files.specs.Answers.{AreGiven}
-use Rattle.plan_files.specs.Files.{Fields, GivesValue, record_of, records_of}
 use Rattle.plan_files.specs.Records.{row_fields}
-use Rattle.proof_files.specs.declared.proof.Proof.{Proof}
-use Rattle.proof_files.specs.declared.proof.Proof.TheVariants.{Optimum, Refutation, Descent}
-use Rattle.proof_files.specs.Proofs.{IsProof}
 use Rattle.plan_quantities.specs.RowPrices.{IsRowPromised}
 use Rattle.plan_quantities.specs.ShownRows.{IsToBeShown}
-use Rattle.plan_tables.specs.declared.shown.NumberForm.{NumberForm}
 use Rattle.price_tables.specs.declared.shown.PriceTable.{PriceTable}
 use Rattle.price_tables.specs.PriceAmounts.{row_price}
 use Rattle.price_tables.specs.PricedRows.{price_table_named, priced_rows}
-use Rattle.command_answers.specs.declared.status.Status.TheVariants.{Done}
-use Rattle.command_answers.specs.ShownProofs.{DueOverRows}
-use Rattle.check_command.specs.Check.{DueForPlan, multiplier_bound, plan_cost}
-use Rattle.check_command.specs.CheckProof.{DueForProofFile, DueForProofTold}
-use Rattle.check_command.proofs.AcceptedProofs.{ProofLaws}
-use Rattle.table_command.specs.declared.shown.Shown.{Shown}
 use Rattle.table_command.specs.declared.shown.Shown.TheVariants.{Prices}
-use Rattle.table_command.specs.ShownTables.{or_values, shown_named}
-use Rattle.table_command.specs.Tables.{DueForKnown, DueForTable, ShowsProof}
 use Rattle.osemosys_run.specs.Promised.{ArePricesPromised, IsPromisedTable}
 
 -- the law on a table of prices

@@ -1,37 +1,11 @@
 -- What `solve` writes to prove an end is accepted by `check`.
-use Rattle.std.proofs.Common.{◌≡◌, ℕ, List, [], inl, inr, refl, sym, ◌∙◌, subst}
-use Rattle.std.specs.Prelude.{codes}
-use Rattle.model_sets.specs.Data.{Data}
-use Rattle.mps_writer.specs.MpsText.{line}
-use Rattle.row_core.specs.declared.Row.{Row}
-use Rattle.row_core.specs.declared.RowName.{RowName}
-use Rattle.row_core.specs.declared.place.Place.{Place}
-use Rattle.named_equations.specs.Existence.{all_variables}
-use Rattle.named_equations.specs.Instances.{instances}
-use Rattle.row_book.specs.Books.{AreRowsOf, CanBeMade, HasStopped}
-use Rattle.row_book.specs.declared.fail.BookFail.{BookFail}
+use Rattle.osemosys_run.proofs.Common.{◌≡◌, ℕ, List, [], inl, inr, refl, sym, ◌∙◌, subst, codes, Data, line, Row, RowName, Place, all_variables, instances, AreRowsOf, CanBeMade, HasStopped, BookFail, Stop, Status, Done, Infeasible, Refused, Unbounded, Uncertified, HasNoRows, SolveMethod, Exact, Rounded, DueForProof, DueForProofFile, ProofLaws, descent-accepted, optimum-accepted, refutation-accepted, Wanted, wanted_by, DueBy, DueForEnd, DueForRows, DueForSolve, DueForSolveFrom, DueFrom, FromNothing, FromValues, WithoutStart, count_by, StartFile, rows-due}
 use Rattle.row_book.specs.declared.fail.BookFail.TheVariants as book
-use Rattle.simplex_core.specs.declared.stops.Stop.{Stop}
-use Rattle.command_answers.specs.declared.status.Status.{Status}
-use Rattle.command_answers.specs.declared.status.Status.TheVariants.{Done, Infeasible, Refused, Unbounded, Uncertified}
 use Rattle.command_answers.specs.declared.status.Refusal.{Refusal}
-use Rattle.command_answers.specs.MadeBooks.{HasNoRows}
-use Rattle.command_words.specs.declared.command.SolveMethod.{SolveMethod}
-use Rattle.command_words.specs.declared.command.SolveMethod.TheVariants.{Exact, Rounded}
-use Rattle.check_command.specs.CheckProof.{DueForProof, DueForProofFile}
-use Rattle.check_command.proofs.AcceptedProofs.{ProofLaws, descent-accepted, optimum-accepted, refutation-accepted}
 use Rattle.solve_command.specs.declared.solve.Shown.TheVariants.{Proof}
-use Rattle.solve_command.specs.declared.solve.Wanted.{Wanted}
-use Rattle.solve_command.specs.Shown.{wanted_by}
-use Rattle.solve_command.specs.Solve.{DueBy, DueForEnd, DueForRows, DueForSolve}
-use Rattle.solve_command.specs.Starts.{DueForSolveFrom, DueFrom}
 use Rattle.result_tables.specs.declared.attempts.Begun.{Begun}
-use Rattle.result_tables.specs.declared.attempts.Begun.TheVariants.{FromNothing, FromValues, WithoutStart}
 use Rattle.solver_answers.specs.Told.{Told, Breaks, Lacks, Gives, is_passed, is_value}
-use Rattle.std.specs.List.{count_by}
 use Rattle.command_words.specs.declared.command.SolveShow.TheVariants as words
-use Rattle.command_answers.specs.declared.status.Refusal.TheVariants.{StartFile}
-use Rattle.solve_command.proofs.RowsDue.{rows-due}
 use Rattle.osemosys_run.specs.Accepting.{AcceptsEnd}
 
 -- which status an end has

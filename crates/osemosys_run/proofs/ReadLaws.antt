@@ -1,19 +1,9 @@
 -- What follows where files were read one after another, and where the reading stopped at one.
-use Rattle.std.proofs.Common.{◌≡◌, ◌≢◌, ◌⊎◌, ◌<◌, ◌≤◌, ◌+◌, ℕ, zero, suc, inl, inr, List, [], ◌∷◌, length, Option, Some, None, IsSome, refl, ap, sym, ◌∙◌, subst, arith}
-use Rattle.io_edges.specs.Count.{Rose}
-use Rattle.io_edges.specs.Edges.{Lacks}
+use Rattle.osemosys_run.proofs.Common.{◌≡◌, ◌≢◌, ◌⊎◌, ◌<◌, ◌≤◌, ◌+◌, ℕ, zero, suc, inl, inr, List, [], ◌∷◌, length, Option, Some, None, IsSome, refl, ap, sym, ◌∙◌, subst, arith, Rose, Lacks, Has, Status, AreRead, Stops, StopsAt, Sight, ReadEnd, AreThere, DueForFile, DueForFiles, TellsEnd}
 use Rattle.io_edges.specs.Files.{file_named}
-use Rattle.row_core.proofs.Members.{Has}
-use Rattle.command_answers.specs.declared.status.Status.{Status}
-use Rattle.request_files.specs.InTurn.{AreRead, Stops, StopsAt}
 use Rattle.request_files.specs.Reading.{BeganOne, IsWholeFile, most_bytes}
-use Rattle.request_files.specs.Sights.{Sight}
-use Rattle.request_files.specs.declared.whole.ReadEnd.{ReadEnd}
 use Rattle.request_files.specs.declared.whole.ReadEnd.TheVariants.{NoFile, Failed, TooLong, Memory}
-use Rattle.osemosys_run.specs.Complete.{AreThere}
-use Rattle.osemosys_run.specs.Due.{DueForFile, DueForFiles}
 use Rattle.osemosys_run.proofs.FilesDue.{long_file, short_file}
-use Rattle.osemosys_run.specs.Causes.{TellsEnd}
 
 -- ---- shelves
 

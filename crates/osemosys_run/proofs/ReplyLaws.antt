@@ -1,15 +1,5 @@
 -- What is known of a reply: of an answer that is told, and of equations.
-use Rattle.std.proofs.Common.{◌≡◌, ℕ, List, inl, inr, sym, subst}
-use Rattle.model_sets.specs.Data.{Data}
-use Rattle.command_answers.specs.declared.answer.Answer.{Answer}
-use Rattle.command_answers.specs.declared.status.Status.{Status}
-use Rattle.command_answers.specs.declared.status.Status.TheVariants.{Done, Infeasible, Unbounded, Uncertified, Refused, Words, ReadFault, WriteFault, Memory, Rejected}
-use Rattle.command_words.specs.Words.{Request}
-use Rattle.osemosys_run.specs.Due.{DueOver}
-use Rattle.osemosys_run.specs.Mps.{DueForEquations}
-use Rattle.osemosys_run.specs.Replies.{CanBeTold, IsOwn, IsReplyTo, IsTold}
-use Rattle.osemosys_run.specs.declared.reply.Reply.{Reply}
-use Rattle.osemosys_run.specs.declared.reply.Reply.TheVariants.{Told}
+use Rattle.osemosys_run.proofs.Common.{◌≡◌, ℕ, List, inl, inr, sym, subst, Data, Answer, Status, Done, Infeasible, Unbounded, Uncertified, Refused, Words, ReadFault, WriteFault, Memory, Rejected, Request, DueOver, DueForEquations, CanBeTold, IsOwn, IsReplyTo, IsTold, Reply, Told}
 
 -- the status and the text that are told are the ones of which something is known
 pub told_so : (P : Status → List ℕ → Type 0) (said : Status) (line : List ℕ) → P said line → (status : Status) (text : List ℕ) → IsTold said line status text → P status text

@@ -1,13 +1,7 @@
 -- A request that must come to an end does: what is due for it is that.
-use Rattle.std.proofs.Common.{◌≡◌, ℕ, List, Option, Result, Ok, subst}
-use Rattle.std.specs.Option.{option_map}
-use Rattle.command_answers.specs.declared.status.Status.{Status}
+use Rattle.osemosys_run.proofs.Common.{◌≡◌, ℕ, List, Option, Result, Ok, subst, option_map, Status, WordFault, Request, Check, CheckProof, Compare, Curve, Explain, Make, Mps, Page, Reduce, Solve, SolveFrom, Span, Table, Warn, asked, names_of, AreThere, CanBeDone, IsEndOf, Due, DueForRequest, DueOver, bytes_at}
 use Rattle.command_words.specs.declared.command.MakeShow.TheVariants.{File, Summary}
-use Rattle.command_words.specs.declared.fault.WordFault.{WordFault}
-use Rattle.command_words.specs.Words.{Request, Check, CheckProof, Compare, Curve, Explain, Make, Mps, Page, Reduce, Solve, SolveFrom, Span, Table, Warn, asked, names_of}
 use Rattle.model_maker.specs.MadeText.{made_text}
-use Rattle.osemosys_run.specs.Complete.{AreThere, CanBeDone, IsEndOf}
-use Rattle.osemosys_run.specs.Due.{Due, DueForRequest, DueOver, bytes_at}
 use Rattle.osemosys_run.proofs.Completeness.{Laws, accepted, written}
 use Rattle.osemosys_run.proofs.CompareCompleteness.{compared}
 use Rattle.osemosys_run.proofs.CurveCompleteness.{drawn}

@@ -1,20 +1,7 @@
 -- The files of a request: of one data file with others, and of two scenarios.
-use Rattle.std.specs.Prelude.{Bool, true, false, IfOk, Result}
-use Rattle.std.proofs.Common.{◌≡◌, ◌≢◌, Bor, ℕ, List, [], ◌∷◌, ◌++◌, length, map, refl, ap, arith, Some, None, subst, sym, ◌∙◌}
-use Rattle.std.specs.List.{AllByRecursion}
-use Rattle.command_words.specs.declared.command.CompareShow.{CompareShow}
-use Rattle.mathprog_data.specs.Pieces.{PieceState, StandsFor}
-use Rattle.command_words.specs.Words.{Request, Check, CheckProof, Compare, Curve, Explain, Make, Mps, Page, Reduce, Solve, SolveFrom, Span, Table, Warn, names_of}
-use Rattle.request_files.specs.Marked.{AllHold, fed_of, held_of}
-use Rattle.request_files.specs.Reading.{IsShort}
-use Rattle.command_answers.specs.declared.answer.Answer.{Answer}
-use Rattle.command_words.specs.Commands.{request_of}
-use Rattle.command_words.specs.declared.command.Command.{Command}
+use Rattle.std.specs.Prelude.{Bool, false, IfOk, Result}
+use Rattle.osemosys_run.proofs.Common.{◌≡◌, ◌≢◌, Bor, ℕ, List, [], ◌∷◌, ◌++◌, length, map, refl, ap, arith, Some, None, subst, sym, ◌∙◌, AllByRecursion, CompareShow, PieceState, StandsFor, Request, Check, CheckProof, Compare, Curve, Explain, Make, Mps, Page, Reduce, Solve, SolveFrom, Span, Table, Warn, names_of, AllHold, fed_of, held_of, IsShort, Answer, request_of, Command, MakeShow, Data, DueOverData, HasOneModel, IsOfOneModel, IsRead, first_marked, marks_for}
 use Rattle.command_words.specs.declared.command.Command.TheVariants as code
-use Rattle.command_words.specs.declared.command.MakeShow.{MakeShow}
-use Rattle.model_sets.specs.Data.{Data}
-use Rattle.osemosys_run.specs.Due.{DueOverData}
-use Rattle.osemosys_run.specs.Requests.{HasOneModel, IsOfOneModel, IsRead, first_marked, marks_for}
 
 -- each request that is answered over one model names a data file first
 pub of_one_model : (request : Request) → HasOneModel request → IsOfOneModel request
@@ -136,11 +123,6 @@ last_holds [] reader (first ∷ second ∷ texts) text all = absurd all.1
 last_holds (other ∷ []) reader [] text all = absurd all.1
 last_holds (other ∷ another ∷ fed) reader [] text all = absurd all.1
 last_holds (other ∷ fed) reader (first ∷ texts) text all = let rest = last_holds fed reader texts text all.1 in ((all.0, rest.0), rest.1)
-
--- where a text is stood for, there is a reader
-pub some_reader : (texts : List (List ℕ)) (text : List ℕ) → AllHold StandsFor [] (texts ++ text ∷ []) → ⊥
-some_reader [] text all = all
-some_reader (first ∷ texts) text all = all
 
 -- lists with the same last item
 pub same_last : (xs ys : List (List ℕ)) (x y : List ℕ) → xs ++ x ∷ [] ≡ ys ++ y ∷ [] → (xs ≡ ys) × (x ≡ y)

@@ -1,27 +1,9 @@
 -- What follows from what was delivered and from its cause.
-use Rattle.std.proofs.Common.{◌≡◌, ◌≢◌, ◌⊎◌, ◌<◌, ◌+◌, ℕ, inl, inr, List, [], ◌∷◌, length, Option, Some, IsSome, Result, Ok, Err, refl, sym, ◌∙◌, subst, arith}
-use Rattle.std.specs.Prelude.{⊤}
-use Rattle.row_core.proofs.Members.{Contains-from_Has}
-use Rattle.io_edges.specs.Count.{Rose}
-use Rattle.io_edges.specs.Edges.{Lacks}
-use Rattle.command_answers.specs.declared.status.Status.{Status}
-use Rattle.command_answers.specs.declared.status.Status.TheVariants.{Done, Refused, ReadFault, WriteFault, Memory}
+use Rattle.osemosys_run.proofs.Common.{◌≡◌, ◌≢◌, ◌⊎◌, ◌<◌, ◌+◌, ℕ, inl, inr, List, [], ◌∷◌, length, Option, Some, IsSome, Result, Ok, Err, refl, sym, ◌∙◌, subst, arith, ⊤, Contains-from_Has, Rose, Lacks, Status, Done, Refused, ReadFault, WriteFault, Memory, WordFault, Request, asked, names_of, AreMoved, Stops, Sight, ReadEnd, moved-read, AreThere, CanBeDone, Completes, IsEndOf, Due, DueForRequest, DueOverAsked, names_asked, CanBeTold, IsOwn, Caused, CausedByRequest, IsAnswered, IsStopped, TellsEnd, HasReadAll, IsReadAtWriteFault, IsReadToEnd, ReadsWhole, SpeaksOfFiles, Delivers, IsBegun, Sent}
 use Rattle.command_answers.specs.declared.status.Refusal.TheVariants as refusals
 use Rattle.command_answers.specs.declared.status.ReadStop.TheVariants as stops
-use Rattle.command_words.specs.declared.fault.WordFault.{WordFault}
-use Rattle.command_words.specs.Words.{Request, asked, names_of}
-use Rattle.request_files.specs.InTurn.{AreMoved, Stops}
 use Rattle.request_files.specs.Reading.{most_bytes}
-use Rattle.request_files.specs.Sights.{Sight}
-use Rattle.request_files.specs.declared.whole.ReadEnd.{ReadEnd}
 use Rattle.request_files.specs.declared.whole.ReadEnd.TheVariants as ends
-use Rattle.request_files.proofs.InTurnLaws.{moved-read}
-use Rattle.osemosys_run.specs.Complete.{AreThere, CanBeDone, Completes, IsEndOf}
-use Rattle.osemosys_run.specs.Due.{Due, DueForRequest, DueOverAsked, names_asked}
-use Rattle.osemosys_run.specs.Replies.{CanBeTold, IsOwn}
-use Rattle.osemosys_run.specs.Causes.{Caused, CausedByRequest, IsAnswered, IsStopped, TellsEnd}
-use Rattle.osemosys_run.specs.ReadToEnd.{HasReadAll, IsReadAtWriteFault, IsReadToEnd, ReadsWhole, SpeaksOfFiles}
-use Rattle.osemosys_run.specs.Sending.{Delivers, IsBegun, Sent}
 use Rattle.osemosys_run.proofs.ReadLaws.{StopsAtOne, due-read, due-stopped, never-stops, none-left, rose-since, stops-one}
 
 -- ---- what is delivered

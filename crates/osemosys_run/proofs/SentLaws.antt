@@ -1,10 +1,7 @@
 -- A text that is sent piece by piece.
-use Rattle.std.proofs.Common.{◌≡◌, ℕ, ◌+◌, ◌≤◌, List, ◌++◌, length, take, drop, ap, sym, ◌∙◌}
+use Rattle.osemosys_run.proofs.Common.{◌≡◌, ℕ, ◌+◌, ◌≤◌, List, ◌++◌, length, take, drop, ap, sym, ◌∙◌, take_all, Output, Took, took-both, took-same}
 use Rattle.std.specs.Prelude.{Result, Ok, Err, OnErr}
-use Rattle.std.proofs.lemmas.List.{take_all}
 use Rattle.std.proofs.Math.Seq.{take-add}
-use Rattle.io_edges.specs.Outputs.{Output, Took}
-use Rattle.io_edges.proofs.OutputLaws.{took-both, took-same}
 
 -- a prefix of what was left over comes after the prefix that was sent
 pub sent_more : (start before after : Output) (text : List ℕ) (sent n : ℕ) (piece : List ℕ) → piece ≡ drop sent text → Took start before (take sent text) → Took before after (take n piece)

@@ -1,25 +1,5 @@
 -- A table and a page of a proof that can be accepted are written: what is due for it is that.
-use Rattle.std.proofs.Common.{◌≡◌, Bool, ℕ, inl, inr, List, Some, None, sym, ◌∙◌, subst}
-use Rattle.std.proofs.lemmas.Option.{same_Some}
-use Rattle.row_core.specs.declared.Row.{Row}
-use Rattle.named_equations.specs.Existence.{all_variables}
-use Rattle.named_equations.specs.Instances.{instances}
-use Rattle.row_book.specs.Books.{AreRowsOf}
-use Rattle.plan_files.specs.Files.{records_of}
-use Rattle.proof_files.specs.declared.proof.Proof.{Proof}
-use Rattle.proof_files.specs.declared.proof.Proof.TheVariants.{Optimum}
-use Rattle.proof_files.specs.Proofs.{IsProof}
-use Rattle.model_sets.specs.Data.{Data}
-use Rattle.command_answers.specs.declared.status.Status.{Status}
-use Rattle.command_answers.specs.declared.status.Status.TheVariants.{Done}
-use Rattle.command_answers.specs.DueForText.{DueForText}
-use Rattle.check_command.specs.CheckProof.{DueForProofFile, DueForProofTold}
-use Rattle.command_answers.specs.ShownProofs.{DueForShown, DueOverRows}
-use Rattle.page_command.specs.Pages.{DueForPage, ShowsPage}
-use Rattle.table_command.specs.Tables.{DueForKnown, DueForTable, ShowsProof, form_of}
-use Rattle.table_command.specs.ShownTables.{shown_named}
-use Rattle.table_command.specs.declared.shown.Shown.{Shown}
-use Rattle.osemosys_run.specs.Complete.{ProvesOptimum}
+use Rattle.osemosys_run.proofs.Common.{◌≡◌, Bool, ℕ, inl, inr, List, Some, None, sym, ◌∙◌, subst, same_Some, Row, all_variables, instances, AreRowsOf, records_of, Proof, Optimum, IsProof, Data, Status, Done, DueForText, DueForProofFile, DueForProofTold, DueForShown, DueOverRows, DueForPage, ShowsPage, DueForKnown, DueForTable, ShowsProof, form_of, shown_named, Shown, ProvesOptimum}
 use Rattle.osemosys_run.proofs.Completeness.{Laws, no_rows, over_accepted, plan_done}
 
 -- ---- any command of the two files

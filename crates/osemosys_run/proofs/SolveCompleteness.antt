@@ -1,31 +1,9 @@
 -- A model that can be solved is brought to an end: what is due for it is that.
-use Rattle.std.proofs.Common.{◌≡◌, ℕ, inl, inr, List, subst}
+use Rattle.osemosys_run.proofs.Common.{◌≡◌, ℕ, inl, inr, List, subst, Data, Row, all_variables, instances, AreRowsOf, CanBeMade, HasOptimum, IsPivotDue, IsWide, MethodEnd, method_end, Wanted, Summary, Status, CanBeSolved, IsEnded, DueForText, shown_of, wanted_by, DueForSummary, default_pivots, default_places, default_wanted, SolveMethod, Exact, Rounded, ComesToEnd, DueBy, DueForEnd, DueForRows, DueForSolve, DueForSolveFrom, DueFrom, begun_from, FromValues, WithoutStart, count_by, IsWithinLimits, rows-due}
 use Rattle.std.specs.Prelude.{length}
-use Rattle.model_sets.specs.Data.{Data}
-use Rattle.row_core.specs.declared.Row.{Row}
-use Rattle.named_equations.specs.Existence.{all_variables}
-use Rattle.named_equations.specs.Instances.{instances}
-use Rattle.row_book.specs.Books.{AreRowsOf, CanBeMade}
-use Rattle.exact_solver.specs.MethodEnds.{HasOptimum, IsPivotDue, IsWide, MethodEnd}
-use Rattle.command_answers.specs.BookMethods.{method_end}
-use Rattle.solve_command.specs.declared.solve.Wanted.{Wanted}
-use Rattle.solve_command.specs.declared.solve.Shown.TheVariants.{Summary}
-use Rattle.command_answers.specs.declared.status.Status.{Status}
-use Rattle.osemosys_run.specs.Complete.{CanBeSolved, IsEnded}
-use Rattle.command_answers.specs.DueForText.{DueForText}
-use Rattle.solve_command.specs.Shown.{shown_of, wanted_by}
-use Rattle.solve_command.specs.Summary.{DueForSummary, default_pivots, default_places, default_wanted}
-use Rattle.command_words.specs.declared.command.SolveMethod.{SolveMethod}
-use Rattle.command_words.specs.declared.command.SolveMethod.TheVariants.{Exact, Rounded}
 use Rattle.command_words.specs.declared.command.SolveShow.{SolveShow}
-use Rattle.solve_command.specs.Solve.{ComesToEnd, DueBy, DueForEnd, DueForRows, DueForSolve}
-use Rattle.solve_command.specs.Starts.{DueForSolveFrom, DueFrom, begun_from}
-use Rattle.result_tables.specs.declared.attempts.Begun.TheVariants.{FromValues, WithoutStart}
 use Rattle.solver_answers.specs.Answers.{Tells}
 use Rattle.solver_answers.specs.Told.{Told, Breaks, Lacks, Gives, is_passed, is_value}
-use Rattle.std.specs.List.{count_by}
-use Rattle.command_answers.specs.Limits.{IsWithinLimits}
-use Rattle.solve_command.proofs.RowsDue.{rows-due}
 use Rattle.solve_command.proofs.SolvedEnds.{prices_come}
 use Rattle.osemosys_run.proofs.Completeness.{Laws, no_rows, not_too_large, over_accepted}
 

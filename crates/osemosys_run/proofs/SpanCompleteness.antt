@@ -1,28 +1,9 @@
 -- Where nothing stops the work, a span is found, or it is told that there is no plan or no least cost.
-use Rattle.std.proofs.Common.{◌≡◌, ◌⊎◌, ℕ, true, inl, inr, List, Option, Some, None, sym, ◌∙◌, subst}
-use Rattle.exact_num.specs.Range.{all_fit}
-use Rattle.exact_num.specs.Rational.{Rational}
-use Rattle.model_sets.specs.Data.{Data}
-use Rattle.model_sets.specs.Members.{index_of, members}
-use Rattle.model_sets.specs.declared.set_numbers.TheConstants.{REGION, TECHNOLOGY, YEAR}
-use Rattle.row_core.specs.declared.Row.{Row}
-use Rattle.row_core.specs.declared.Var.{Var}
-use Rattle.named_equations.specs.Existence.{all_variables}
-use Rattle.named_equations.specs.Instances.{instances}
-use Rattle.row_book.specs.Books.{AreRowsOf, CanBeMade}
+use Rattle.osemosys_run.proofs.Common.{◌≡◌, ◌⊎◌, ℕ, true, inl, inr, List, Option, Some, None, sym, ◌∙◌, subst, all_fit, Rational, Data, index_of, members, REGION, TECHNOLOGY, YEAR, Row, Var, all_variables, instances, AreRowsOf, CanBeMade, SolveMethod, Exact, Rounded, definers, DueForText, Status, IsWithinLimits, slack_formed, slack_limit, Stopped, CanBeSpanned, IsEnded, NothingStopsSpan}
 use Rattle.certified_answers.specs.Worth.{multiplier_bound}
-use Rattle.command_words.specs.declared.command.SolveMethod.{SolveMethod}
-use Rattle.command_words.specs.declared.command.SolveMethod.TheVariants.{Exact, Rounded}
-use Rattle.command_answers.specs.Definers.{definers}
-use Rattle.command_answers.specs.DueForText.{DueForText}
-use Rattle.command_answers.specs.declared.status.Status.{Status}
-use Rattle.command_answers.specs.Limits.{IsWithinLimits}
-use Rattle.span_finder.specs.Slacks.{slack_formed, slack_limit}
 use Rattle.span_finder.specs.SpanEnds.{Stops}
-use Rattle.span_finder.specs.declared.found.SpanFail.TheVariants.{Stopped}
 use Rattle.span_command.specs.Span.{DueBy, DueForEnd, DueForFound, DueForMember, DueForMethod, DueForSpan, Finds, HasLeastCost, built}
 use Rattle.span_command.specs.declared.wanted.Wanted.{Wanted}
-use Rattle.osemosys_run.specs.Complete.{CanBeSpanned, IsEnded, NothingStopsSpan}
 use Rattle.osemosys_run.proofs.Completeness.{Laws, found_or_due, no_rows, over_accepted}
 
 same_member : (found : Option ℕ) (a b : ℕ) → found ≡ Some a → found ≡ Some b → a ≡ b

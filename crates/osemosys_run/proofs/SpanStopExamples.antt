@@ -1,20 +1,7 @@
 -- What stops `span`: examples, and near misses.
-use Rattle.std.proofs.Common.{◌≡◌, ℕ, List, true, false, sym, ◌∙◌, true≢false}
-use Rattle.exact_num.specs.Range.{all_fit}
-use Rattle.exact_num.specs.Rational.{Rational}
-use Rattle.row_core.specs.declared.Row.{Row}
-use Rattle.row_core.specs.declared.RowName.{RowName}
-use Rattle.row_core.specs.declared.Var.{Var}
-use Rattle.row_core.specs.declared.place.Place.{Place}
-use Rattle.exact_solver.specs.MethodEnds.{HasNoPlan, HasOptimum, IsPivotDue, IsWide}
-use Rattle.command_answers.specs.Definers.{definers}
-use Rattle.command_answers.specs.BookMethods.{method_end}
+use Rattle.osemosys_run.proofs.Common.{◌≡◌, ℕ, List, true, false, sym, ◌∙◌, true≢false, all_fit, Rational, Row, RowName, Var, Place, HasNoPlan, HasOptimum, IsPivotDue, IsWide, definers, method_end, Stop, slack_formed, slack_limit, Stopped, NothingStopsSpan}
 use Rattle.certified_answers.specs.Worth.{multiplier_bound as bound_of}
-use Rattle.simplex_core.specs.declared.stops.Stop.{Stop}
-use Rattle.span_finder.specs.Slacks.{slack_formed, slack_limit}
 use Rattle.span_finder.specs.SpanEnds.{Stops}
-use Rattle.span_finder.specs.declared.found.SpanFail.TheVariants.{Stopped}
-use Rattle.osemosys_run.specs.Complete.{NothingStopsSpan}
 
 module _ (rows : List Row) (vars : List Var) (var : Var) (slack pivots : ℕ) where
   -- without a plan there is no least cost, and so nothing more to be done

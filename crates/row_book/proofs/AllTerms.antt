@@ -1,10 +1,5 @@
 -- The variables of each instance's terms exist, and those beside its own are defined by earlier equations, if at all.
-use Rattle.std.proofs.Common.{ℕ, inl, inr, arith}
-use Rattle.std.proofs.lemmas.Bool.{cases_lt}
-use Rattle.model_sets.specs.Data.{Data}
-use Rattle.row_core.specs.declared.RowName.{RowName}
-use Rattle.named_equations.specs.Instances.{subscripts_of}
-use Rattle.named_equations.proofs.TermMeaning.{at_number}
+use Rattle.row_book.proofs.Common.{ℕ, inl, inr, arith, cases_lt, Data, RowName, subscripts_of, at_number}
 use Rattle.row_book.proofs.CostTerms.{cost-terms}
 use Rattle.row_book.proofs.EnergyTerms.{energy-terms}
 use Rattle.row_book.proofs.Instances.{IsInstance}

@@ -1,21 +1,5 @@
 -- What a book keeps: examples, and near misses.
-use Rattle.std.proofs.Common.{◌≡◌, ◌≢◌, pos, negsuc, Bool, true, false, inl, inr, [], ◌∷◌, None, Some, refl, sym, subst, ◌∙◌, arith}
-use Rattle.std.specs.Ordering.{is_eq}
-use Rattle.std.specs.Prelude.{◌≤ℤ◌, Contains, if◌then◌else◌}
-use Rattle.std.proofs.lemmas.Int.{ints}
-use Rattle.row_core.specs.declared.Row.{Row}
-use Rattle.row_core.specs.declared.Var.{Var}
-use Rattle.row_core.specs.Numbers.{variables_of}
-use Rattle.row_core.specs.Order.{var_cmp}
-use Rattle.row_core.specs.Rows.{number_at}
-use Rattle.row_core.proofs.Orders.{var_cmp_exact}
-use Rattle.named_equations.specs.Instances.{variable_of}
-use Rattle.named_equations.specs.Variables.{capital_investment, new_capacity, production, rate_of_production, trade}
-use Rattle.row_core.proofs.Members.{Contains-from_Has, Has, Has-from_Contains}
-use Rattle.row_core.specs.RowLists.{entry_variables}
-use Rattle.row_book.specs.Definitions.{Defines}
-use Rattle.row_book.specs.Kept.{IsBook, IsDefinedAt}
-use Rattle.row_book.specs.Signs.{IsBounded, IsMadeOfParts}
+use Rattle.row_book.proofs.Common.{◌≡◌, ◌≢◌, pos, negsuc, Bool, true, false, inl, inr, [], ◌∷◌, None, Some, refl, sym, subst, ◌∙◌, arith, is_eq, ◌≤ℤ◌, Contains, if◌then◌else◌, ints, Row, Var, variables_of, var_cmp, number_at, var_cmp_exact, variable_of, capital_investment, new_capacity, production, rate_of_production, trade, Contains-from_Has, Has, Has-from_Contains, entry_variables, Defines, IsBook, IsDefinedAt, IsBounded, IsMadeOfParts}
 use Rattle.row_book.proofs.SignLaws.{alike}
 
 -- ---- the signs of definitions

@@ -1,18 +1,5 @@
 -- The inner subscripts that are asked, by the number of the equation: those of which a ratio isn't 0, or all.
-use Rattle.std.proofs.Common.{◌≡◌, ℕ, ◌⊎◌, inl, inr, Bool, true, false, cond, List, [], ◌∷◌, length, take, drop, refl, sym, ◌∙◌, subst, arith}
-use Rattle.std.specs.List.{AllByRecursion}
-use Rattle.std.specs.Prelude.{filter}
-use Rattle.std.proofs.lemmas.Bool.{cases_lt}
-use Rattle.std.proofs.lemmas.List.{append-nil, drop_all, length-take-le, take-append-drop}
-use Rattle.model_sets.specs.Data.{Data}
-use Rattle.row_core.specs.declared.Index.{Index}
-use Rattle.named_equations.specs.Indices.{at_r, by_rltfmy, by_rtemy}
-use Rattle.named_equations.specs.Instances.{stands_at}
-use Rattle.named_equations.specs.Variables.{annual_technology_emission_by_mode, rate_of_production_by_technology_by_mode, rate_of_use_by_technology_by_mode}
-use Rattle.param_tables.specs.declared.ratios.ActivityRatio.{ActivityRatio}
-use Rattle.param_tables.specs.declared.ratios.ActivityRatio.TheVariants.{Input, Output, Emission}
-use Rattle.row_book.specs.Ratios.{cells_of_ratio, cells_of_some_mode, has_ratio, has_some_ratio, ratio_subscripts}
-use Rattle.row_book.specs.Walks.{AreAsked, AreFirstAsked, HaveRows, inner_subscripts, inners_of, joined, walk}
+use Rattle.row_book.proofs.Common.{◌≡◌, ℕ, ◌⊎◌, inl, inr, Bool, true, false, cond, List, [], ◌∷◌, length, take, drop, refl, sym, ◌∙◌, subst, arith, AllByRecursion, filter, cases_lt, append-nil, drop_all, length-take-le, take-append-drop, Data, Index, at_r, by_rltfmy, by_rtemy, stands_at, annual_technology_emission_by_mode, rate_of_production_by_technology_by_mode, rate_of_use_by_technology_by_mode, ActivityRatio, Input, Output, Emission, cells_of_ratio, cells_of_some_mode, has_ratio, has_some_ratio, ratio_subscripts, AreAsked, AreFirstAsked, HaveRows, inner_subscripts, inners_of, joined, walk}
 use Rattle.row_book.proofs.Lists.{AllByRecursion-parts, filter-all}
 
 pub asked-everywhere : (d : Data) (eq r : ℕ) (cells : List Index) → cells ≡ inners_of d eq r → AreAsked d eq r cells

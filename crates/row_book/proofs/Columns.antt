@@ -1,42 +1,7 @@
 -- Each variable that exists stands in some row.
-use Rattle.std.proofs.Common.{◌≡◌, ◌≢◌, ℕ, ◌+◌, ◌<◌, ◌≤◌, ℤ, pos, negsuc, ◌+ℤ◌, ◌*ℤ◌, Bool, true, false, inl, inr, List, [], ◌∷◌, Some, refl, ap, sym, ◌∙◌, subst, arith, le-leb, lt-ltb, ltb-true}
-use Rattle.std.specs.Cmp.Derive.{both_true}
-use Rattle.std.specs.Ordering.{int_cmp, is_eq}
-use Rattle.std.specs.Prelude.{◌<ℤ◌, ◌≤ℤ◌, if◌then◌else◌}
-use Rattle.std.specs.declared.cmp.Ordering.{Ordering}
-use Rattle.std.specs.declared.cmp.Ordering.TheVariants.{Less, Equal, Greater}
-use Rattle.std.proofs.lemmas.Int.{ints}
-use Rattle.exact_num.specs.Rational.{whole}
-use Rattle.exact_num.proofs.OrderLaws.{int_cmp-equal, int_cmp-greater, int_cmp-less}
-use Rattle.model_sets.specs.Data.{Data}
+use Rattle.row_book.proofs.Common.{◌≡◌, ◌≢◌, ℕ, ◌+◌, ◌<◌, ◌≤◌, ℤ, pos, negsuc, ◌+ℤ◌, ◌*ℤ◌, Bool, true, false, inl, inr, List, [], ◌∷◌, Some, refl, ap, sym, ◌∙◌, subst, arith, le-leb, lt-ltb, ltb-true, both_true, int_cmp, is_eq, ◌<ℤ◌, ◌≤ℤ◌, if◌then◌else◌, Ordering, Less, Equal, Greater, ints, whole, int_cmp-equal, int_cmp-greater, int_cmp-less, Data, Row, RowName, Var, EquationTerms, IsRowOf, coefficients_of, right_of, terms_of, variables_of, var_cmp, number_at, IsOver, IsSumOver, alone, multiple-sign, written-IsMultiple, var_cmp_exact, still_counts, years_counting, exists, subscripts_of_kind, at_rlty, at_rrrlfy, at_rty, instances, name_at, subscripts_of, variable_of, all_years, count_of, modes, number_of_year, IsNamedRow, is_made_of, sum_away, accumulated_new_capacity, new_capacity, rate_of_activity, rate_of_total_activity, trade, variable, life_of, Has, alone-self, AreComplete, entry_variables, AreRowsOf, IsChosen, terms_at}
 use Rattle.model_sets.specs.Names as sets
-use Rattle.row_core.specs.declared.Row.{Row}
-use Rattle.row_core.specs.declared.RowName.{RowName}
-use Rattle.row_core.specs.declared.Var.{Var}
-use Rattle.row_core.specs.EquationTerms.{EquationTerms, IsRowOf, coefficients_of, right_of, terms_of}
-use Rattle.row_core.specs.Numbers.{variables_of}
-use Rattle.row_core.specs.Order.{var_cmp}
-use Rattle.row_core.specs.Rows.{number_at}
-use Rattle.row_core.specs.Values.{IsOver, IsSumOver, alone}
-use Rattle.row_core.proofs.MeaningLaws.{multiple-sign, written-IsMultiple}
-use Rattle.row_core.proofs.Orders.{var_cmp_exact}
 use Rattle.row_core.proofs.SumLaws.{IsSumOver-gathered}
-use Rattle.named_equations.specs.Capacity.{still_counts, years_counting}
-use Rattle.named_equations.specs.Existence.{exists, subscripts_of_kind}
-use Rattle.named_equations.specs.Indices.{at_rlty, at_rrrlfy, at_rty}
-use Rattle.named_equations.specs.Instances.{instances, name_at, subscripts_of, variable_of}
-use Rattle.named_equations.specs.Positions.{all_years, count_of, modes, number_of_year}
-use Rattle.named_equations.specs.RowMeaning.{IsNamedRow}
-use Rattle.named_equations.specs.TermShapes.{is_made_of, sum_away}
-use Rattle.named_equations.specs.Variables.{accumulated_new_capacity, new_capacity, rate_of_activity, rate_of_total_activity, trade, variable}
-use Rattle.named_equations.specs.WrittenFactors.{life_of}
-use Rattle.row_core.proofs.Members.{Has}
-use Rattle.named_equations.proofs.TermMeaning.{alone-self}
-use Rattle.param_tables.specs.Built.{AreComplete}
-use Rattle.row_core.specs.RowLists.{entry_variables}
-use Rattle.row_book.specs.Books.{AreRowsOf}
-use Rattle.row_book.specs.Definitions.{IsChosen}
-use Rattle.row_book.specs.EquationRows.{terms_at}
 use Rattle.row_book.proofs.Definers.{exists-within, is-found}
 use Rattle.row_book.proofs.Elements.{Has-filter}
 use Rattle.row_book.proofs.GivenValues.{Has-part, life-at_least}

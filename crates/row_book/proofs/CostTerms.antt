@@ -1,16 +1,6 @@
 -- The terms of costs and of the emissions of technologies: equations 25 to 42.
-use Rattle.std.proofs.Common.{◌≡◌, ℕ, negsuc, Bool, true, false, not, ◌&&◌, ◌||◌, refl}
-use Rattle.model_sets.specs.Data.{Data}
+use Rattle.row_book.proofs.Common.{◌≡◌, ℕ, negsuc, Bool, true, false, not, ◌&&◌, ◌||◌, refl, Data, Index, Whole, Billionths, Negative, name_at, stands_at, subscripts_of, variable_cost, all_years, emissions, modes, technologies, has_sv1, has_sv2, new_capacity, total_capacity_annual, total_annual_technology_activity_by_mode, capital_investment, discounted_capital_investment, salvage_value, discounted_salvage_value, annual_variable_operating_cost, annual_fixed_operating_cost, operating_cost, discounted_operating_cost, annual_technology_emission_by_mode, annual_technology_emission, annual_technology_emission_penalty_by_emission, annual_technology_emissions_penalty, discounted_technology_emissions_penalty, total_discounted_cost_by_technology, total_discounted_cost, model_period_cost_by_region, emits_in_mode, emitting_modes, EachFrom}
 use Rattle.model_sets.specs.Names as sets
-use Rattle.row_core.specs.declared.Index.{Index}
-use Rattle.row_core.specs.Amounts.{Whole, Billionths, Negative}
-use Rattle.named_equations.specs.Instances.{name_at, stands_at, subscripts_of}
-use Rattle.named_equations.specs.Parameters.{variable_cost}
-use Rattle.named_equations.specs.Positions.{all_years, emissions, modes, technologies}
-use Rattle.named_equations.specs.Salvage.{has_sv1, has_sv2}
-use Rattle.named_equations.specs.Variables.{new_capacity, total_capacity_annual, total_annual_technology_activity_by_mode, capital_investment, discounted_capital_investment, salvage_value, discounted_salvage_value, annual_variable_operating_cost, annual_fixed_operating_cost, operating_cost, discounted_operating_cost, annual_technology_emission_by_mode, annual_technology_emission, annual_technology_emission_penalty_by_emission, annual_technology_emissions_penalty, discounted_technology_emissions_penalty, total_discounted_cost_by_technology, total_discounted_cost, model_period_cost_by_region}
-use Rattle.named_equations.specs.Where.{emits_in_mode, emitting_modes}
-use Rattle.named_equations.proofs.TermMeaning.{EachFrom}
 use Rattle.row_book.proofs.Lists.{AllByRecursion-filter}
 use Rattle.row_book.proofs.Subscripts.{AreValues, In, positions-in, values-r, values-rtemy, values-rtey, values-rtmy, values-rty, values-ry}
 use Rattle.row_book.proofs.TermVariables.{AtNumber, HasTerms, IsTermOf, earlier, each-terms, own, stands_too, ◌and◌}

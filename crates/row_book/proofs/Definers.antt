@@ -1,28 +1,6 @@
 -- Which variable an instance defines: the row names and the variables that are defined go together one by one.
-use Rattle.std.proofs.Common.{◌≡◌, ◌≢◌, ℕ, ◌<◌, ◌≤◌, Bool, true, false, cond, not, ◌&&◌, ◌⊎◌, inl, inr, List, [], ◌∷◌, nat_eq, nat_le, nat_lt, Some, None, refl, ap, ap₂, sym, ◌∙◌, subst, arith, ltb-true, le-leb, leb-true, eq-eqb, eqb-true}
-use Rattle.std.specs.List.{list_all, list_any}
-use Rattle.std.specs.Prelude.{if◌then◌else◌}
-use Rattle.std.proofs.Math.Nat.{eq-or-lt_of_le}
-use Rattle.std.proofs.lemmas.Bool.{and_parts, cases_lt, ne_eqb, or_cases}
-use Rattle.model_sets.specs.Data.{Data}
-use Rattle.row_core.specs.declared.Index.{Index}
-use Rattle.row_core.specs.declared.RowName.{RowName}
-use Rattle.row_core.specs.declared.Sense.{Sense}
+use Rattle.row_book.proofs.Common.{◌≡◌, ◌≢◌, ℕ, ◌<◌, ◌≤◌, Bool, true, false, cond, not, ◌&&◌, ◌⊎◌, inl, inr, List, [], ◌∷◌, nat_eq, nat_le, nat_lt, Some, None, refl, ap, ap₂, sym, ◌∙◌, subst, arith, ltb-true, le-leb, leb-true, eq-eqb, eqb-true, list_all, list_any, if◌then◌else◌, eq-or-lt_of_le, and_parts, cases_lt, ne_eqb, or_cases, Data, Index, RowName, Sense, Var, IsEquation, IsKind, defines_kind, definers, exists, exists_at, exists_everywhere, kind_numbers, subscripts_of_kind, equation_numbers, is_index, name_at, stands_at, subscripts_of, variable_of, by_sinking_fund, by_straight_line, has_sv1, has_sv2, outlasts, other_trade, trade, variable, method_of, rate_of, Has, EachFrom, at_number, IsChosen, terms_at, tidied}
 use Rattle.row_core.specs.declared.Sense.TheVariants.{Equal, Least, Most}
-use Rattle.row_core.specs.declared.Var.{Var}
-use Rattle.row_core.specs.Equations.{IsEquation}
-use Rattle.row_core.specs.Kinds.{IsKind}
-use Rattle.named_equations.specs.Existence.{defines_kind, definers, exists, exists_at, exists_everywhere, kind_numbers, subscripts_of_kind}
-use Rattle.named_equations.specs.Instances.{equation_numbers, is_index, name_at, stands_at, subscripts_of, variable_of}
-use Rattle.named_equations.specs.Salvage.{by_sinking_fund, by_straight_line, has_sv1, has_sv2, outlasts}
-use Rattle.named_equations.specs.Table.{other_trade}
-use Rattle.named_equations.specs.Variables.{trade, variable}
-use Rattle.named_equations.specs.WrittenFactors.{method_of, rate_of}
-use Rattle.row_core.proofs.Members.{Has}
-use Rattle.named_equations.proofs.TermMeaning.{EachFrom, at_number}
-use Rattle.row_book.specs.Definitions.{IsChosen}
-use Rattle.row_book.specs.EquationRows.{terms_at}
-use Rattle.row_book.specs.Kinds.{tidied}
 use Rattle.row_book.proofs.Elements.{Has-filter, filter_parts}
 use Rattle.row_book.proofs.Instances.{IsInstance}
 use Rattle.row_book.proofs.KindLaws.{defined-by_kind, defines-kind, kind_of, one-number, salvage-number, same-subscripts, trade-number, variable-defined}

@@ -1,18 +1,5 @@
 -- The rows that define variables that aren't free make them of parts that are at least 0.
-use Rattle.std.proofs.Common.{◌≡◌, ℕ, true, false, Bool, ◌||◌, inl, inr, List, nat_eq, Some, refl, ap, sym, ◌∙◌, arith, eqb-true}
-use Rattle.std.specs.List.{list_all, range_with_len}
-use Rattle.std.proofs.lemmas.Bool.{cases_lt, or_cases}
-use Rattle.model_sets.specs.Data.{Data}
-use Rattle.row_core.specs.declared.Row.{Row}
-use Rattle.row_core.specs.declared.RowName.{RowName}
-use Rattle.row_core.specs.declared.Var.{Var}
-use Rattle.row_core.specs.Kinds.{kind_is_free}
-use Rattle.named_equations.specs.Instances.{instances, subscripts_of, variable_of}
-use Rattle.named_equations.proofs.TermMeaning.{at_number}
-use Rattle.param_tables.specs.Built.{AreComplete}
-use Rattle.row_book.specs.Books.{AreRowsOf}
-use Rattle.row_book.specs.EquationRows.{terms_at}
-use Rattle.row_book.specs.Signs.{HaveSigns, IsBounded}
+use Rattle.row_book.proofs.Common.{◌≡◌, ℕ, true, false, Bool, ◌||◌, inl, inr, List, nat_eq, Some, refl, ap, sym, ◌∙◌, arith, eqb-true, list_all, range_with_len, cases_lt, or_cases, Data, Row, RowName, Var, kind_is_free, instances, subscripts_of, variable_of, at_number, AreComplete, AreRowsOf, terms_at, HaveSigns, IsBounded}
 use Rattle.row_book.proofs.Definers.{is-definer}
 use Rattle.row_book.proofs.EnergySigns.{energy-signs}
 use Rattle.row_book.proofs.Instances.{IsInstance, all-at, all-instances}

@@ -1,15 +1,6 @@
 -- The signs of demand, of capacity adequacy, of the energy balance and of accounting: equations 1 to 24.
-use Rattle.std.proofs.Common.{ℕ, pos, nat_le, refl, sym}
-use Rattle.model_sets.specs.Data.{Data}
+use Rattle.row_book.proofs.Common.{ℕ, pos, nat_le, refl, sym, Data, Index, Billionths, Whole, years_counting, input_activity_ratio, output_activity_ratio, specified_annual_demand, specified_demand_profile, year_split, modes, timeslices, accumulated_new_capacity, demand, new_capacity, production, production_annual, production_by_technology, rate_of_activity, rate_of_demand, rate_of_production, rate_of_production_by_technology, rate_of_production_by_technology_by_mode, rate_of_total_activity, rate_of_use, rate_of_use_by_technology, rate_of_use_by_technology_by_mode, total_annual_technology_activity_by_mode, total_capacity_annual, trade, trade_annual, use_annual, use_by_technology, use_of_fuel, producing_modes, producing_technologies, using_modes, using_technologies, EachFrom}
 use Rattle.model_sets.specs.Names as sets
-use Rattle.row_core.specs.declared.Index.{Index}
-use Rattle.row_core.specs.Amounts.{Billionths, Whole}
-use Rattle.named_equations.specs.Capacity.{years_counting}
-use Rattle.named_equations.specs.Parameters.{input_activity_ratio, output_activity_ratio, specified_annual_demand, specified_demand_profile, year_split}
-use Rattle.named_equations.specs.Positions.{modes, timeslices}
-use Rattle.named_equations.specs.Variables.{accumulated_new_capacity, demand, new_capacity, production, production_annual, production_by_technology, rate_of_activity, rate_of_demand, rate_of_production, rate_of_production_by_technology, rate_of_production_by_technology_by_mode, rate_of_total_activity, rate_of_use, rate_of_use_by_technology, rate_of_use_by_technology_by_mode, total_annual_technology_activity_by_mode, total_capacity_annual, trade, trade_annual, use_annual, use_by_technology, use_of_fuel}
-use Rattle.named_equations.specs.Where.{producing_modes, producing_technologies, using_modes, using_technologies}
-use Rattle.named_equations.proofs.TermMeaning.{EachFrom}
 use Rattle.row_book.proofs.Definers.{chosen-some}
 use Rattle.row_book.proofs.ParameterSigns.{at_least-input_activity_ratio, at_least-output_activity_ratio, at_least-residual_capacity, at_least-specified_annual_demand, at_least-specified_demand_profile, at_least-year_split}
 use Rattle.row_book.proofs.SignLaws.{at_least_zero-product, less-part, own-part}

@@ -1,17 +1,6 @@
 -- The terms of demand, of capacity adequacy, of the energy balance and of accounting: equations 1 to 24.
-use Rattle.std.proofs.Common.{◌≡◌, ℕ, negsuc, Bool, true, false, inl, inr, Some, None, cond, nat_le, refl}
-use Rattle.model_sets.specs.Data.{Data}
+use Rattle.row_book.proofs.Common.{◌≡◌, ℕ, negsuc, Bool, true, false, inl, inr, Some, None, cond, nat_le, refl, Data, Index, Var, Whole, Billionths, Negative, still_counts, years_counting, name_at, stands_at, subscripts_of, trade_route, year_split, all_years, modes, regions, technologies, timeslices, rate_of_activity, new_capacity, trade, rate_of_demand, accumulated_new_capacity, total_capacity_annual, rate_of_total_activity, rate_of_production_by_technology_by_mode, rate_of_production_by_technology, rate_of_production, rate_of_use_by_technology_by_mode, rate_of_use_by_technology, rate_of_use, production, use_of_fuel, demand, production_annual, use_annual, trade_annual, production_by_technology, use_by_technology, total_annual_technology_activity_by_mode, produces, produces_in_mode, producing_modes, producing_technologies, uses, uses_in_mode, using_modes, using_technologies, EachFrom}
 use Rattle.model_sets.specs.Names as sets
-use Rattle.row_core.specs.declared.Index.{Index}
-use Rattle.row_core.specs.declared.Var.{Var}
-use Rattle.row_core.specs.Amounts.{Whole, Billionths, Negative}
-use Rattle.named_equations.specs.Capacity.{still_counts, years_counting}
-use Rattle.named_equations.specs.Instances.{name_at, stands_at, subscripts_of}
-use Rattle.named_equations.specs.Parameters.{trade_route, year_split}
-use Rattle.named_equations.specs.Positions.{all_years, modes, regions, technologies, timeslices}
-use Rattle.named_equations.specs.Variables.{rate_of_activity, new_capacity, trade, rate_of_demand, accumulated_new_capacity, total_capacity_annual, rate_of_total_activity, rate_of_production_by_technology_by_mode, rate_of_production_by_technology, rate_of_production, rate_of_use_by_technology_by_mode, rate_of_use_by_technology, rate_of_use, production, use_of_fuel, demand, production_annual, use_annual, trade_annual, production_by_technology, use_by_technology, total_annual_technology_activity_by_mode}
-use Rattle.named_equations.specs.Where.{produces, produces_in_mode, producing_modes, producing_technologies, uses, uses_in_mode, using_modes, using_technologies}
-use Rattle.named_equations.proofs.TermMeaning.{EachFrom}
 use Rattle.row_book.proofs.Lists.{AllByRecursion-filter}
 use Rattle.row_book.proofs.Subscripts.{AreValues, In, exists-from_values, positions-in, values-rfy, values-rlfy, values-rltfmy, values-rltfy, values-rltmy, values-rlty, values-rrrfy, values-rrrlfy, values-rtmy, values-rty}
 use Rattle.row_book.proofs.TermVariables.{AtNumber, HasTerms, IsTermOf, earlier, each-terms, own, same_some, stands_too, ◌and◌}

@@ -1,19 +1,5 @@
 -- What is true of each variable of an equation's terms is true of each variable of its row's entries.
-use Rattle.std.proofs.Common.{ℕ, Bool, true, false, ℤ, List, [], ◌∷◌, sym, subst}
-use Rattle.std.specs.List.{AllByRecursion}
-use Rattle.std.specs.declared.cmp.Ordering.{Ordering}
-use Rattle.std.specs.declared.cmp.Ordering.TheVariants.{Less, Equal, Greater}
-use Rattle.std.specs.Prelude.{if◌then◌else◌}
-use Rattle.exact_num.specs.Rational.{Rational, plus}
-use Rattle.row_core.specs.declared.Row.{Row}
-use Rattle.row_core.specs.declared.RowName.{RowName}
-use Rattle.row_core.specs.declared.Var.{Var}
-use Rattle.row_core.specs.Amounts.{Amount}
-use Rattle.row_core.specs.EquationTerms.{EquationTerms, IsRowOf, coefficients_of, right_of, terms_of}
-use Rattle.row_core.specs.Numbers.{is_zero, variables_of}
-use Rattle.row_core.specs.Order.{var_cmp}
-use Rattle.row_core.specs.Terms.{gathered_onto, with_term}
-use Rattle.row_core.specs.Written.{cleared_entries, common_denominator, entries_divided, entries_over, kept, written_divisor}
+use Rattle.row_book.proofs.Common.{ℕ, Bool, true, false, ℤ, List, [], ◌∷◌, sym, subst, AllByRecursion, Ordering, Less, Equal, Greater, if◌then◌else◌, Rational, plus, Row, RowName, Var, Amount, EquationTerms, IsRowOf, coefficients_of, right_of, terms_of, is_zero, variables_of, var_cmp, gathered_onto, with_term, cleared_entries, common_denominator, entries_divided, entries_over, kept, written_divisor}
 
 -- true of the variable of each
 abbrev pub OfVariables : {A : Type 0} → (Var → Type 0) → List (Var × A) → Type 0

@@ -1,30 +1,7 @@
 -- The definitions on the base example of one region, technology, fuel, timeslice, mode and year, and near misses.
-use Rattle.std.proofs.Common.{◌≡◌, ℕ, ◌*◌, ◌^◌, true, false, cond, List, [], ◌∷◌, map, pos, neg_ℤ, Some, None, inl, inr, refl, ap, sym, ◌∙◌, arith}
-use Rattle.std.specs.List.{enumerate_from}
+use Rattle.row_book.proofs.Common.{◌≡◌, ℕ, ◌*◌, ◌^◌, true, false, cond, List, [], ◌∷◌, map, pos, neg_ℤ, Some, None, inl, inr, refl, ap, sym, ◌∙◌, arith, enumerate_from, gcd_of, gcd_within, all_fit, in_range, lowest, plus, times, Data, Default, Input, Output, Emission, Index, Row, RowName, Most, Var, Billionths, Negative, Total, ascends, row_name_cmp, var_cmp, at_rrrlfy, by_rltfmy, index, instances, name_at, variable_of, new_capacity, rate_of_production_by_technology_by_mode, trade, variable, AreVariablesOf, AreRowsOf, CanBeMade, HasTooMany, IsTooWide, entries_in, row_fits, AreTriangular, Defines, IsChosen, cost_of, is_from, terms_at, cells_of_ratio, cells_of_some_mode, AreFirstAsked, instance_at, instances_in}
 use Rattle.std.specs.Prelude.{ℤ, codes}
 use Rattle.exact_num.specs.Formed.{product_formed, sum_formed}
-use Rattle.exact_num.specs.Gcd.{gcd_of, gcd_within}
-use Rattle.exact_num.specs.Range.{all_fit, in_range}
-use Rattle.exact_num.specs.Rational.{lowest, plus, times}
-use Rattle.model_sets.specs.Data.{Data, Default}
-use Rattle.param_tables.specs.declared.ratios.ActivityRatio.TheVariants.{Input, Output, Emission}
-use Rattle.row_core.specs.declared.Index.{Index}
-use Rattle.row_core.specs.declared.Row.{Row}
-use Rattle.row_core.specs.declared.RowName.{RowName}
-use Rattle.row_core.specs.declared.Sense.TheVariants.{Most}
-use Rattle.row_core.specs.declared.Var.{Var}
-use Rattle.row_core.specs.Amounts.{Billionths, Negative, Total}
-use Rattle.row_core.specs.Numbers.{ascends}
-use Rattle.row_core.specs.Order.{row_name_cmp, var_cmp}
-use Rattle.named_equations.specs.Indices.{at_rrrlfy, by_rltfmy, index}
-use Rattle.named_equations.specs.Instances.{instances, name_at, variable_of}
-use Rattle.named_equations.specs.Variables.{new_capacity, rate_of_production_by_technology_by_mode, trade, variable}
-use Rattle.row_core.specs.RowLists.{AreVariablesOf}
-use Rattle.row_book.specs.Books.{AreRowsOf, CanBeMade, HasTooMany, IsTooWide, entries_in, row_fits}
-use Rattle.row_book.specs.Definitions.{AreTriangular, Defines, IsChosen, cost_of}
-use Rattle.row_book.specs.EquationRows.{is_from, terms_at}
-use Rattle.row_book.specs.Ratios.{cells_of_ratio, cells_of_some_mode}
-use Rattle.row_book.specs.Walks.{AreFirstAsked, instance_at, instances_in}
 
 -- ---- the data
 

@@ -1,31 +1,9 @@
 -- What a feed of rows tells, and what a first pass through all rows finds: examples, and near misses.
-use Rattle.std.proofs.Common.{◌≡◌, ℕ, ◌<◌, pos, negsuc, Bool, true, false, List, [], ◌∷◌, ◌++◌, map, length, refl, sym, ap, ap₂, ◌∙◌, subst, inl, inr, arith, true≢false}
+use Rattle.row_book.proofs.Common.{◌≡◌, ℕ, ◌<◌, pos, negsuc, Bool, true, false, List, [], ◌∷◌, ◌++◌, map, length, refl, sym, ap, ap₂, ◌∙◌, subst, inl, inr, arith, true≢false, Contains-append_left, Contains-append_right, Row, Var, CAA1, CC1, gcd_of, gcd_within, lowest, plus, times, capital_investment, new_capacity, RowContents, contents_of, has_kind, HasContentsWithin, ahead_after, ahead_at, all_contents, contents_at, equation_contents, IsFeed, AreHeld, KeepsRows, held_variables, is_before_kind, is_of_kind, next_kind, AreSortedVariables, AreTallied, Counts, Marks, MarksMore, found_variables, kind_room, marked, names_to, rows_before, entry_variables, AreRowsOf, row_fits, HeldRows, Tally, Discounting, Data, instances, instances_of, places_of}
 use Rattle.std.specs.Prelude.{None, Option, Some}
 use Rattle.std.specs.List.{Contains, list_all}
-use Rattle.std.proofs.lemmas.List.Elements.{Contains-append_left, Contains-append_right}
-use Rattle.row_core.specs.declared.Row.{Row}
 use Rattle.row_core.specs.declared.Sense.TheVariants.{Equal}
-use Rattle.row_core.specs.declared.Var.{Var}
-use Rattle.row_core.specs.declared.equation_numbers.TheConstants.{CAA1, CC1}
 use Rattle.row_core.specs.declared.kind_numbers.TheConstants.{CAPITAL_INVESTMENT, TRADE}
-use Rattle.exact_num.specs.Gcd.{gcd_of, gcd_within}
-use Rattle.exact_num.specs.Rational.{lowest, plus, times}
-use Rattle.named_equations.specs.Variables.{capital_investment, new_capacity}
-use Rattle.row_core.specs.Contents.{RowContents, contents_of}
-use Rattle.row_core.specs.Sources.{has_kind}
-use Rattle.row_book.specs.Feeds.{HasContentsWithin, ahead_after, ahead_at, all_contents, contents_at, equation_contents}
-use Rattle.row_book.specs.FeedStates.{IsFeed}
-use Rattle.row_book.specs.Held.{AreHeld, KeepsRows, held_variables}
-use Rattle.row_book.specs.KindVariables.{is_before_kind, is_of_kind, next_kind}
-use Rattle.row_book.specs.Tallies.{AreSortedVariables, AreTallied, Counts, Marks, MarksMore, found_variables, kind_room, marked, names_to, rows_before}
-use Rattle.row_core.specs.RowLists.{entry_variables}
-use Rattle.row_book.specs.Books.{AreRowsOf, row_fits}
-use Rattle.row_book.specs.declared.held_rows.HeldRows.{HeldRows}
-use Rattle.row_book.specs.declared.tally.Tally.{Tally}
-use Rattle.discount_factors.specs.Known.{Discounting}
-use Rattle.model_sets.specs.Data.{Data}
-use Rattle.named_equations.specs.Instances.{instances, instances_of}
-use Rattle.named_equations.specs.RegionFactors.{places_of}
 use Rattle.row_book.proofs.Examples.{at_zeros, base}
 use Rattle.row_book.proofs.InvestmentExamples.{spread}
 

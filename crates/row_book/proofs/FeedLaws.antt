@@ -1,29 +1,7 @@
 -- The rows of a feed: equation by equation they are those of all instances.
 use Rattle.std.proofs.Common.{◌≡◌, ◌≢◌, ℕ, zero, suc, ◌+◌, ◌-◌, ◌<◌, ◌≤◌, Bool, true, false, cond, nat_eq, List, [], ◌∷◌, ◌++◌, Option, Result, drop, filter, get_or, map, length, reverse, refl, ap, ap₂, sym, ◌∙◌, subst, arith, eq-eqb, eqb-true}
 use Rattle.std.specs.Prelude.{ℤ, None, Some, Ok, Err, IfOk, IfSome, OnErr, slice_index_or}
-use Rattle.std.specs.List.{AllByRecursion, enumerate_from, flat_map, range_with_len}
-use Rattle.std.proofs.lemmas.List.{append-nil, drop-map, length-map, map-append, reverse-append, reverse-reverse}
-use Rattle.std.proofs.lemmas.List.FromFn.{get_or-map-range_with_len, length-map-range_with_len}
-use Rattle.std.proofs.lemmas.List.Elements.{filter-append}
-use Rattle.model_sets.specs.Data.{Data}
-use Rattle.row_core.specs.declared.Row.{Row}
-use Rattle.row_core.specs.declared.RowName.{RowName}
-use Rattle.row_core.specs.declared.Sense.{Sense}
-use Rattle.row_core.specs.declared.Var.{Var}
-use Rattle.row_core.specs.EquationTerms.{IsRowOf}
-use Rattle.discount_factors.specs.Known.{Discounting}
-use Rattle.named_equations.specs.Instances.{instances, instances_of}
-use Rattle.named_equations.specs.RegionFactors.{AreRegionFactors, places_of}
-use Rattle.row_core.specs.Contents.{RowContents, contents_of}
-use Rattle.row_core.specs.Sources.{Answers, AreInOrder, is_of_equation, rows_of_equation}
-use Rattle.row_book.specs.Books.{AreRowsOf, CanBeMade, IsWithinSets, entries_in, entry_limit}
-use Rattle.row_book.specs.EquationRows.{terms_at}
-use Rattle.row_book.specs.FeedStates.{IsFeed}
-use Rattle.row_book.specs.Held.{AreHeld}
-use Rattle.row_book.specs.declared.held_rows.HeldRows.{HeldRows}
-use Rattle.row_book.specs.Feeds.{AreContentsOf, HasContentsWithin, ahead_after, ahead_at, all_contents, contents_at, contents_written, equation_contents}
-use Rattle.row_book.specs.Tallies.{AreSortedVariables, AreTallied, Marks, found_variables, names_to, rows_before}
-use Rattle.row_book.specs.declared.tally.Tally.{Tally}
+use Rattle.row_book.proofs.Common.{AllByRecursion, enumerate_from, flat_map, range_with_len, append-nil, drop-map, length-map, map-append, reverse-append, reverse-reverse, get_or-map-range_with_len, length-map-range_with_len, filter-append, Data, Row, RowName, Sense, Var, IsRowOf, Discounting, instances, instances_of, AreRegionFactors, places_of, RowContents, contents_of, Answers, AreInOrder, is_of_equation, rows_of_equation, AreRowsOf, CanBeMade, IsWithinSets, entries_in, entry_limit, terms_at, IsFeed, AreHeld, HeldRows, AreContentsOf, HasContentsWithin, ahead_after, ahead_at, all_contents, contents_at, contents_written, equation_contents, AreSortedVariables, AreTallied, Marks, found_variables, names_to, rows_before, Tally}
 use Rattle.row_book.proofs.Instances.{IsInstance, all-instances}
 use Rattle.row_book.proofs.Lists.{AllByRecursion-append, AllByRecursion-map, AllByRecursion-weaker, flat_map-middle}
 use Rattle.row_book.proofs.PlacesOfFactors.{factors-by_places, made-by_places, rows-by_places}

@@ -1,20 +1,7 @@
 -- What is true of each coefficient of an equation, and of sums of such coefficients, is true of each coefficient of its terms by variable; so these are in
 -- lowest terms.
-use Rattle.std.proofs.Common.{◌≡◌, List, [], ◌∷◌, pos, refl, arith}
-use Rattle.std.specs.List.{AllByRecursion}
-use Rattle.std.specs.declared.cmp.Ordering.{Ordering}
-use Rattle.std.specs.declared.cmp.Ordering.TheVariants.{Less, Equal, Greater}
-use Rattle.std.proofs.lemmas.Int.{ints}
-use Rattle.exact_num.specs.Rational.{IsLowest, Rational, plus}
-use Rattle.exact_num.proofs.Integers.{nonzero_of_pos}
-use Rattle.exact_num.proofs.RationalLaws.{lowest-IsLowest, negated-IsLowest, plus-IsLowest, times-IsLowest, whole-IsLowest}
-use Rattle.row_core.specs.declared.Var.{Var}
-use Rattle.row_core.specs.Amounts.{Amount, Billionths, Factor, Negative, Product, Total, Whole, value_of_amount}
-use Rattle.row_core.specs.EquationTerms.{EquationTerms, coefficients_of, terms_of}
-use Rattle.row_core.specs.Order.{var_cmp}
-use Rattle.row_core.specs.Terms.{gathered_onto, with_term}
+use Rattle.row_book.proofs.Common.{◌≡◌, List, [], ◌∷◌, pos, refl, arith, AllByRecursion, Ordering, Less, Equal, Greater, ints, IsLowest, Rational, plus, nonzero_of_pos, lowest-IsLowest, negated-IsLowest, plus-IsLowest, times-IsLowest, whole-IsLowest, Var, Amount, Billionths, Factor, Negative, Product, Total, Whole, value_of_amount, EquationTerms, coefficients_of, terms_of, var_cmp, gathered_onto, with_term, var_cmp_exact}
 use Rattle.row_core.proofs.DivisionLaws.{ArePositive}
-use Rattle.row_core.proofs.Orders.{var_cmp_exact}
 use Rattle.named_equations.specs.Notation.{factor_scale}
 use Rattle.named_equations.proofs.TermShapes.{factor_scale-positive}
 

@@ -1,18 +1,7 @@
 -- The values of parameters at the positions of members: which of them are at least 0, and that a life is at least a year.
-use Rattle.std.proofs.Common.{◌≡◌, ℕ, suc, zero, ◌<◌, ◌≤◌, ◌*◌, ◌/◌, ◌^◌, ℤ, pos, Bool, true, false, inl, inr, List, [], ◌∷◌, ◌++◌, length, map, Option, Some, None, refl, ap, sym, ◌∙◌, subst, arith, ltb-true}
-use Rattle.std.specs.List.{flat_map}
-use Rattle.std.specs.Prelude.{◌≤ℤ◌, IsSomeAnd, ⊤, slice_index_or, unsigned_abs, unwrap_or}
-use Rattle.std.proofs.lemmas.Int.{ints}
-use Rattle.std.proofs.Math.Nat.{mul-div_cancel}
-use Rattle.model_sets.specs.Data.{Data, IsUsedParam, indices_over, value_at}
-use Rattle.model_sets.specs.Members.{SetLists, members}
+use Rattle.row_book.proofs.Common.{◌≡◌, ℕ, suc, zero, ◌<◌, ◌≤◌, ◌*◌, ◌/◌, ◌^◌, ℤ, pos, Bool, true, false, inl, inr, List, [], ◌∷◌, ◌++◌, length, map, Option, Some, None, refl, ap, sym, ◌∙◌, subst, arith, ltb-true, flat_map, ◌≤ℤ◌, IsSomeAnd, ⊤, slice_index_or, unsigned_abs, unwrap_or, ints, mul-div_cancel, Data, IsUsedParam, indices_over, value_at, SetLists, members, OPERATIONAL_LIFE, region_name, technology_name, value_of, life_of, Contains-from_Has, Has, AreComplete, IsValueIn}
 use Rattle.model_sets.specs.Names as sets
-use Rattle.model_sets.specs.declared.param_numbers.TheConstants.{OPERATIONAL_LIFE}
 use Rattle.model_sets.specs.Params.{range_of, subscript_sets}
-use Rattle.named_equations.specs.Parameters.{region_name, technology_name, value_of}
-use Rattle.named_equations.specs.WrittenFactors.{life_of}
-use Rattle.row_core.proofs.Members.{Contains-from_Has, Has}
-use Rattle.param_tables.specs.Built.{AreComplete, IsValueIn}
 use Rattle.param_tables.specs.Ranges.{IsInRange, billion}
 use Rattle.model_sets.specs.declared.params.Range.{Range}
 use Rattle.model_sets.specs.declared.params.Range.TheVariants.{Any, AtLeastZero, AboveZero, ZeroToOne, OneOrTwo, Lifetime, ZeroOnly, MinusOneOrAtLeastZero}

@@ -1,15 +1,5 @@
 -- The variables of rows of which some are held: those that are gathered, with those of the rows that are held, are all.
-use Rattle.std.proofs.Common.{◌≡◌, ℕ, ◌+◌, ◌<◌, ◌≤◌, append_assoc, drop, get_or, length, List, [], ◌∷◌, ◌++◌, refl, ap, sym, ◌∙◌, subst, inl, inr}
-use Rattle.std.proofs.lemmas.Grind.{flat_map-append}
-use Rattle.std.proofs.lemmas.List.{append-nil, drop_all, drop_more}
-use Rattle.std.proofs.lemmas.List.Elements.{Contains-append_cases, Contains-append_left, Contains-append_right}
-use Rattle.row_core.specs.declared.Row.{Row}
-use Rattle.row_core.specs.declared.Var.{Var}
-use Rattle.row_core.specs.RowLists.{entry_variables}
-use Rattle.row_book.specs.Held.{held_variables}
-use Rattle.row_book.specs.Tallies.{AreSameVariables, AreSortedVariables, found_variables}
-use Rattle.row_book.specs.declared.held_rows.HeldRows.{HeldRows}
-use Rattle.row_book.specs.declared.tally.Tally.{Tally}
+use Rattle.row_book.proofs.Common.{◌≡◌, ℕ, ◌+◌, ◌<◌, ◌≤◌, append_assoc, drop, get_or, length, List, [], ◌∷◌, ◌++◌, refl, ap, sym, ◌∙◌, subst, inl, inr, flat_map-append, append-nil, drop_all, drop_more, Contains-append_cases, Contains-append_left, Contains-append_right, Row, Var, entry_variables, held_variables, AreSameVariables, AreSortedVariables, found_variables, HeldRows, Tally}
 use Rattle.row_book.proofs.TallyLaws.{same-from_equal, variables-more, variables-over}
 
 -- those of rows that are let go are gathered, beside those of rows that are held

@@ -1,17 +1,6 @@
 -- The equations of capacity adequacy stand everywhere, and so their rows stop only where a number doesn't fit.
-use Rattle.std.proofs.Common.{◌≡◌, ℕ, ◌≤◌, true, not, ◌||◌, refl, ap, sym, ◌∙◌, subst, arith}
-use Rattle.exact_num.specs.Range.{all_fit}
-use Rattle.model_sets.specs.Data.{Data}
-use Rattle.row_core.specs.declared.RowName.{RowName}
-use Rattle.row_core.specs.declared.place.Place.{Place}
-use Rattle.row_core.specs.declared.place.Stopped.{Stopped}
-use Rattle.row_core.specs.EquationTerms.{equation_formed}
-use Rattle.row_core.specs.Stops.{IsStop}
-use Rattle.named_equations.specs.Instances.{name_at, stands_at}
-use Rattle.named_equations.proofs.TermMeaning.{at_number}
+use Rattle.row_book.proofs.Common.{◌≡◌, ℕ, ◌≤◌, true, not, ◌||◌, refl, ap, sym, ◌∙◌, subst, arith, all_fit, Data, RowName, Place, Stopped, equation_formed, IsStop, name_at, stands_at, at_number, row_fits, terms_at}
 use Rattle.capacity_rows.specs.Rows as capacity
-use Rattle.row_book.specs.Books.{row_fits}
-use Rattle.row_book.specs.EquationRows.{terms_at}
 
 capacity-stands : (d : Data) (name : RowName) → 2 ≤ name.eq → name.eq ≤ 6 → stands_at d name.eq name.index ≡ true
 capacity-stands d name from to =

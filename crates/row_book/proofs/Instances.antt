@@ -1,21 +1,5 @@
 -- The instances: what each of them keeps, and where it stands in their list.
-use Rattle.std.proofs.Common.{◌≡◌, ℕ, zero, suc, ◌<◌, true, ◌&&◌, List, [], ◌∷◌, nat_eq, ap, ◌∙◌, arith, inl, inr, subst, Some}
-use Rattle.std.specs.Cmp.Derive.{both_true}
-use Rattle.std.specs.List.{AllByRecursion, list_any}
-use Rattle.std.proofs.lemmas.Bool.{and_parts, cases_order}
-use Rattle.std.specs.Ordering.{ordering_reverse}
-use Rattle.std.specs.Prelude.{slice_get}
-use Rattle.std.specs.declared.cmp.Ordering.{Ordering}
-use Rattle.std.specs.declared.cmp.Ordering.TheVariants.{Less, Greater}
-use Rattle.model_sets.specs.Data.{Data}
-use Rattle.row_core.specs.declared.RowName.{RowName}
-use Rattle.row_core.specs.Equations.{IsEquation}
-use Rattle.row_core.specs.Order.{row_name_cmp}
-use Rattle.row_core.proofs.Orders.{row_name_cmp_total}
-use Rattle.named_equations.specs.Instances.{equation_numbers, instances, is_index, is_instance, stands_at, subscripts_of}
-use Rattle.row_core.proofs.Members.{Has}
-use Rattle.named_equations.proofs.InstanceTests.{Has-instances}
-use Rattle.named_equations.proofs.SortedLists.{Every, Sorted}
+use Rattle.row_book.proofs.Common.{◌≡◌, ℕ, zero, suc, ◌<◌, true, ◌&&◌, List, [], ◌∷◌, nat_eq, ap, ◌∙◌, arith, inl, inr, subst, Some, both_true, AllByRecursion, list_any, and_parts, cases_order, ordering_reverse, slice_get, Ordering, Less, Greater, Data, RowName, IsEquation, row_name_cmp, row_name_cmp_total, equation_numbers, instances, is_index, is_instance, stands_at, subscripts_of, Has, Has-instances, Every, Sorted}
 use Rattle.row_book.proofs.Lists.{all-from}
 use Rattle.row_book.proofs.Numbers.{from-range, in-range}
 

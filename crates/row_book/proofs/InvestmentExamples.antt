@@ -1,16 +1,6 @@
 -- The row of CC1 on the base example with a life of two years and a rate of the technology's own of 0.1, under both profiles and at both scales.
-use Rattle.std.proofs.Common.{◌≡◌, ℕ, ℤ, pos, negsuc, Bool, true, false, List, [], ◌∷◌, refl}
+use Rattle.row_book.proofs.Common.{◌≡◌, ℕ, ℤ, pos, negsuc, Bool, true, false, List, [], ◌∷◌, refl, gcd_of, gcd_within, lowest, plus, times, DISCOUNT_RATE_IDV, OPERATIONAL_LIFE, Data, Var, CC1, right_of, terms_of, written_entries, capital_investment, new_capacity, terms_at}
 use Rattle.discount_factors.specs.Factors.{annuity, discounted, recovery_factor}
-use Rattle.exact_num.specs.Gcd.{gcd_of, gcd_within}
-use Rattle.exact_num.specs.Rational.{lowest, plus, times}
-use Rattle.model_sets.specs.declared.param_numbers.TheConstants.{DISCOUNT_RATE_IDV, OPERATIONAL_LIFE}
-use Rattle.model_sets.specs.Data.{Data}
-use Rattle.row_core.specs.declared.Var.{Var}
-use Rattle.row_core.specs.declared.equation_numbers.TheConstants.{CC1}
-use Rattle.row_core.specs.EquationTerms.{right_of, terms_of}
-use Rattle.row_core.specs.Written.{written_entries}
-use Rattle.named_equations.specs.Variables.{capital_investment, new_capacity}
-use Rattle.row_book.specs.EquationRows.{terms_at}
 use Rattle.row_book.proofs.Examples.{at_zeros, base, defaults, whole}
 
 abbrev pub spread : Bool → Data

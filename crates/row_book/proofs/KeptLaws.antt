@@ -1,18 +1,5 @@
 -- What a book keeps: that it does so once it is made, and what that says of the variable that one of its rows defines.
-use Rattle.std.proofs.Common.{◌≡◌, ℕ, zero, suc, ◌<◌, List, [], ◌∷◌, length, get_or, Option, None, Some, sym, ap, ◌∙◌, arith}
-use Rattle.std.specs.Prelude.{IfSome}
-use Rattle.model_sets.specs.Data.{Data}
-use Rattle.row_core.specs.declared.Row.{Row}
-use Rattle.row_core.specs.declared.Var.{Var}
-use Rattle.row_core.specs.Numbers.{ascends}
-use Rattle.row_core.specs.Order.{row_name_cmp}
-use Rattle.named_equations.specs.Instances.{instances, variable_of}
-use Rattle.named_equations.proofs.InstanceOrder.{instances-ascend}
-use Rattle.param_tables.specs.Built.{AreComplete}
-use Rattle.row_core.specs.RowLists.{AreVariablesOf}
-use Rattle.row_book.specs.Books.{AreRowsOf}
-use Rattle.row_book.specs.Definitions.{Defines, IsAt}
-use Rattle.row_book.specs.Kept.{IsBook, IsDefinedAt}
+use Rattle.row_book.proofs.Common.{◌≡◌, ℕ, zero, suc, ◌<◌, List, [], ◌∷◌, length, get_or, Option, None, Some, sym, ap, ◌∙◌, arith, IfSome, Data, Row, Var, ascends, row_name_cmp, instances, variable_of, instances-ascend, AreComplete, AreVariablesOf, AreRowsOf, Defines, IsAt, IsBook, IsDefinedAt}
 use Rattle.row_book.proofs.DefinitionSigns.{all-signs}
 use Rattle.row_book.proofs.Triangles.{triangular}
 use Rattle.row_book.proofs.Within.{names-of_rows}

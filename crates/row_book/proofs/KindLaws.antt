@@ -1,20 +1,6 @@
 -- An equation defines the variable of its kind, with its own subscripts, or of the other direction of a trade.
-use Rattle.std.proofs.Common.{◌≡◌, ◌≢◌, ℕ, suc, ◌<◌, ◌≤◌, Bool, true, false, ◌||◌, List, [], ◌∷◌, nat_eq, None, Some, refl, ap, ap₂, sym, ◌∙◌, ◌⊎◌, arith, inl, inr, eq-eqb, eqb-true}
-use Rattle.std.specs.List.{list_all, list_any, range_with_len}
-use Rattle.std.specs.Prelude.{slice_index_or, if◌then◌else◌}
-use Rattle.std.specs.Str.{bytes_eq}
+use Rattle.row_book.proofs.Common.{◌≡◌, ◌≢◌, ℕ, suc, ◌<◌, ◌≤◌, Bool, true, false, ◌||◌, List, [], ◌∷◌, nat_eq, None, Some, refl, ap, ap₂, sym, ◌∙◌, ◌⊎◌, arith, inl, inr, eq-eqb, eqb-true, list_all, list_any, range_with_len, slice_index_or, if◌then◌else◌, bytes_eq, get_or-eq_default, ne_eqb, Index, RowName, IsEquation, defines_kind, subscripts_of_kind, equation_numbers, equation_of, name_at, no_equation, subscripts_of, variable_of, named_equations, other_trade, variable, EachFrom, at_number, defined_kinds, tidied, variable_by_kind}
 use Rattle.std.proofs.lemmas.Slice.Eq.{bytes_eq-Decides}
-use Rattle.std.proofs.Math.ListN.{get_or-eq_default}
-use Rattle.std.proofs.lemmas.Bool.{ne_eqb}
-use Rattle.row_core.specs.declared.Index.{Index}
-use Rattle.row_core.specs.declared.RowName.{RowName}
-use Rattle.row_core.specs.Equations.{IsEquation}
-use Rattle.named_equations.specs.Existence.{defines_kind, subscripts_of_kind}
-use Rattle.named_equations.specs.Instances.{equation_numbers, equation_of, name_at, no_equation, subscripts_of, variable_of}
-use Rattle.named_equations.specs.Table.{named_equations, other_trade}
-use Rattle.named_equations.specs.Variables.{variable}
-use Rattle.named_equations.proofs.TermMeaning.{EachFrom, at_number}
-use Rattle.row_book.specs.Kinds.{defined_kinds, tidied, variable_by_kind}
 use Rattle.row_book.proofs.Numbers.{in-range, passes-at, unless-so, where-so}
 
 -- the kind of the variables that the equation of this number defines

@@ -1,16 +1,8 @@
 -- Variables that are gathered kind by kind are all variables.
-use Rattle.std.proofs.Common.{◌≡◌, ℕ, ◌+◌, ◌<◌, ◌≤◌, Bool, true, false, nat_le, cond, append_assoc, drop, get_or, length, List, [], ◌∷◌, ◌++◌, refl, ap, sym, ◌∙◌, inl, inr, arith}
+use Rattle.row_book.proofs.Common.{◌≡◌, ℕ, ◌+◌, ◌<◌, ◌≤◌, Bool, true, false, nat_le, cond, append_assoc, drop, get_or, length, List, [], ◌∷◌, ◌++◌, refl, ap, sym, ◌∙◌, inl, inr, arith, Contains-append_cases, Contains-append_left, Contains-append_right, filter-append, drop_more, variables_of, Row, Var, entry_variables, is_before_kind, is_of_kind, lesser_kind, next_kind, AreSameVariables}
 use Rattle.std.specs.Prelude.{Contains, Option, None, Some, filter, unwrap_or}
 use Rattle.std.proofs.lemmas.Bool.{cases_lt, eq-eqb, eqb-true, leb-false, leb-true, lt-ltb, ltb-true}
-use Rattle.std.proofs.lemmas.List.Elements.{Contains-append_cases, Contains-append_left, Contains-append_right, filter-append}
-use Rattle.std.proofs.lemmas.List.{drop_more}
 use Rattle.param_tables.proofs.AscendingLaws.{contains_cases, contains_filter, contains_from_filter}
-use Rattle.row_core.specs.Numbers.{variables_of}
-use Rattle.row_core.specs.declared.Row.{Row}
-use Rattle.row_core.specs.declared.Var.{Var}
-use Rattle.row_core.specs.RowLists.{entry_variables}
-use Rattle.row_book.specs.KindVariables.{is_before_kind, is_of_kind, lesser_kind, next_kind}
-use Rattle.row_book.specs.Tallies.{AreSameVariables}
 
 pub next_kind-append : (past : ℕ) (least : Option ℕ) (vs ws : List Var) → next_kind past least (vs ++ ws) ≡ next_kind past (next_kind past least vs) ws
 next_kind-append past least [] ws = refl

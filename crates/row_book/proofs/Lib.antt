@@ -1,3 +1,4 @@
+pub mod Common
 pub mod AllTerms
 mod BookExamples
 pub mod CellLaws

@@ -1,17 +1,6 @@
 -- The signs of limits, of the reserve margin and of the renewable target: equations 47 to 60.
-use Rattle.std.proofs.Common.{◌≡◌, ℕ, true, refl}
-use Rattle.model_sets.specs.Data.{Data}
+use Rattle.row_book.proofs.Common.{◌≡◌, ℕ, true, refl, Data, Index, Billionths, capacity_to_activity_unit, re_tag_fuel, re_tag_technology, reserve_margin_tag_fuel, reserve_margin_tag_technology, year_split, all_years, fuels, technologies, timeslices, for_each, demand_needing_reserve_margin, production_by_technology, production_by_technology_annual, rate_of_production, rate_of_total_activity, re_total_production_of_target_fuel_annual, total_capacity_annual, total_capacity_in_reserve_margin, total_re_production_annual, total_technology_annual_activity, total_technology_model_period_activity, use_by_technology, use_by_technology_annual, produces, producing_technologies, EachFrom, part_for_target, renewable_production, target_production, unit_in_margin}
 use Rattle.model_sets.specs.Names as sets
-use Rattle.row_core.specs.declared.Index.{Index}
-use Rattle.row_core.specs.Amounts.{Billionths}
-use Rattle.named_equations.specs.Parameters.{capacity_to_activity_unit, re_tag_fuel, re_tag_technology, reserve_margin_tag_fuel, reserve_margin_tag_technology, year_split}
-use Rattle.named_equations.specs.Positions.{all_years, fuels, technologies, timeslices}
-use Rattle.named_equations.specs.TermShapes.{for_each}
-use Rattle.named_equations.specs.Variables.{demand_needing_reserve_margin, production_by_technology, production_by_technology_annual, rate_of_production, rate_of_total_activity, re_total_production_of_target_fuel_annual, total_capacity_annual, total_capacity_in_reserve_margin, total_re_production_annual, total_technology_annual_activity, total_technology_model_period_activity, use_by_technology, use_by_technology_annual}
-use Rattle.named_equations.specs.Where.{produces, producing_technologies}
-use Rattle.named_equations.proofs.TermMeaning.{EachFrom}
-use Rattle.limit_rows.specs.RenewableTarget.{part_for_target, renewable_production, target_production}
-use Rattle.limit_rows.specs.ReserveMargin.{unit_in_margin}
 use Rattle.row_book.proofs.Lists.{AllByRecursion-filter, AllByRecursion-flat_map, AllByRecursion-parts_of}
 use Rattle.row_book.proofs.ParameterSigns.{at_least-capacity_to_activity_unit, at_least-re_tag_fuel, at_least-re_tag_technology, at_least-reserve_margin_tag_fuel, at_least-reserve_margin_tag_technology, at_least-year_split}
 use Rattle.row_book.proofs.SignLaws.{IsPart, at_least_zero-product}

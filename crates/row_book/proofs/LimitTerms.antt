@@ -1,18 +1,6 @@
 -- The terms of limits, of the reserve margin, of the renewable target and of the emissions of regions: equations 43 to 64.
-use Rattle.std.proofs.Common.{◌≡◌, ℕ, negsuc, true, refl}
-use Rattle.model_sets.specs.Data.{Data}
+use Rattle.row_book.proofs.Common.{◌≡◌, ℕ, negsuc, true, refl, Data, Index, Var, Amount, Whole, Billionths, Negative, name_at, stands_at, subscripts_of, year_split, re_tag_technology, reserve_margin_tag_fuel, all_years, fuels, technologies, timeslices, new_capacity, total_capacity_annual, rate_of_total_activity, rate_of_production, production_by_technology, use_by_technology, annual_technology_emission, total_technology_annual_activity, total_technology_model_period_activity, total_capacity_in_reserve_margin, demand_needing_reserve_margin, production_by_technology_annual, total_re_production_annual, re_total_production_of_target_fuel_annual, use_by_technology_annual, annual_emissions, model_period_emissions, producing_technologies, produces, EachFrom, part_for_target, renewable_production, target_production, unit_in_margin}
 use Rattle.model_sets.specs.Names as sets
-use Rattle.row_core.specs.declared.Index.{Index}
-use Rattle.row_core.specs.declared.Var.{Var}
-use Rattle.row_core.specs.Amounts.{Amount, Whole, Billionths, Negative}
-use Rattle.named_equations.specs.Instances.{name_at, stands_at, subscripts_of}
-use Rattle.named_equations.specs.Parameters.{year_split, re_tag_technology, reserve_margin_tag_fuel}
-use Rattle.named_equations.specs.Positions.{all_years, fuels, technologies, timeslices}
-use Rattle.named_equations.specs.Variables.{new_capacity, total_capacity_annual, rate_of_total_activity, rate_of_production, production_by_technology, use_by_technology, annual_technology_emission, total_technology_annual_activity, total_technology_model_period_activity, total_capacity_in_reserve_margin, demand_needing_reserve_margin, production_by_technology_annual, total_re_production_annual, re_total_production_of_target_fuel_annual, use_by_technology_annual, annual_emissions, model_period_emissions}
-use Rattle.named_equations.specs.Where.{producing_technologies, produces}
-use Rattle.named_equations.proofs.TermMeaning.{EachFrom}
-use Rattle.limit_rows.specs.RenewableTarget.{part_for_target, renewable_production, target_production}
-use Rattle.limit_rows.specs.ReserveMargin.{unit_in_margin}
 use Rattle.row_book.proofs.Lists.{AllByRecursion-filter, AllByRecursion-parts_of}
 use Rattle.row_book.proofs.Subscripts.{AreValues, In, positions-in, values-re, values-rey, values-rlfy, values-rltfy, values-rlty, values-rly, values-rt, values-rtey, values-rtfy, values-rty, values-ry}
 use Rattle.row_book.proofs.TermVariables.{AtNumber, HasTerms, IsTermOf, earlier, each-terms, own, stands_too, ◌and◌}

@@ -1,9 +1,6 @@
 -- Lists made part by part.
 use Rattle.std.proofs.Common.{◌≡◌, Bool, true, false, cond, inl, inr, List, [], ◌∷◌, ◌++◌, map, filter, refl, ap, sym, ◌∙◌, subst}
-use Rattle.std.specs.List.{AllByRecursion, flat_map}
-use Rattle.std.proofs.lemmas.List.{append-nil, map-append}
-use Rattle.std.proofs.lemmas.Grind.{flat_map-append}
-use Rattle.row_core.proofs.Members.{Has}
+use Rattle.row_book.proofs.Common.{AllByRecursion, flat_map, append-nil, map-append, flat_map-append, Has}
 
 -- ---- parts
 

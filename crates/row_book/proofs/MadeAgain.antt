@@ -1,14 +1,5 @@
 -- Where the rows of all instances can be made, nothing stops those of one equation.
-use Rattle.std.proofs.Common.{◌≡◌, ℕ, ◌+◌, ◌-◌, ◌<◌, ◌≤◌, Bool, true, false, ◌&&◌, List, ◌∷◌, ◌++◌, refl, ap, sym, ◌∙◌, subst, arith}
-use Rattle.std.specs.List.{flat_map, list_all, range_with_len}
-use Rattle.std.proofs.lemmas.List.Folds.{list_all-append}
-use Rattle.std.proofs.lemmas.List.Sums.{sum_by-append, sum_by-cons}
-use Rattle.model_sets.specs.Data.{Data}
-use Rattle.row_core.specs.declared.RowName.{RowName}
-use Rattle.named_equations.specs.Instances.{instances, instances_of}
-use Rattle.row_book.specs.Books.{CanBeMade, HasStopped, entries_in, entry_count, entry_limit, row_fits}
-use Rattle.row_book.specs.declared.fail.BookFail.{BookFail}
-use Rattle.row_book.specs.declared.fail.BookFail.TheVariants.{Width, TooManyEntries, Memory}
+use Rattle.row_book.proofs.Common.{◌≡◌, ℕ, ◌+◌, ◌-◌, ◌<◌, ◌≤◌, Bool, true, false, ◌&&◌, List, ◌∷◌, ◌++◌, refl, ap, sym, ◌∙◌, subst, arith, flat_map, list_all, range_with_len, list_all-append, sum_by-append, sum_by-cons, Data, RowName, instances, instances_of, CanBeMade, HasStopped, entries_in, entry_count, entry_limit, row_fits, BookFail, Width, TooManyEntries, Memory}
 use Rattle.row_book.proofs.Lists.{flat_map-middle}
 use Rattle.row_book.proofs.Ranges.{range-middle}
 

@@ -1,10 +1,5 @@
 -- The numbers of the equations and of the kinds: ranges of numbers, and tests that each of them passes.
-use Rattle.std.proofs.Common.{◌≡◌, ℕ, zero, suc, ◌+◌, ◌<◌, ◌≤◌, Bool, true, false, ◌||◌, inl, inr, nat_eq, ap, sym, refl, subst, arith, eq-eqb, eqb-true}
-use Rattle.std.specs.List.{list_all, list_any, range_with_len}
-use Rattle.std.specs.Prelude.{if◌then◌else◌}
-use Rattle.std.proofs.Math.Nat.{eq-or-lt_of_le}
-use Rattle.std.proofs.lemmas.Bool.{and_parts, or_cases}
-use Rattle.row_core.proofs.Members.{Has}
+use Rattle.row_book.proofs.Common.{◌≡◌, ℕ, zero, suc, ◌+◌, ◌<◌, ◌≤◌, Bool, true, false, ◌||◌, inl, inr, nat_eq, ap, sym, refl, subst, arith, eq-eqb, eqb-true, list_all, list_any, range_with_len, if◌then◌else◌, eq-or-lt_of_le, and_parts, or_cases, Has}
 
 or_later : (a b : Bool) → b ≡ true → (a || b) ≡ true
 or_later true b e = refl

@@ -1,11 +1,6 @@
 -- The parameters that are factors of parts: accepted data have them at least 0.
-use Rattle.std.proofs.Common.{ℕ, [], ◌∷◌, refl, arith}
-use Rattle.model_sets.specs.Data.{Data}
+use Rattle.row_book.proofs.Common.{ℕ, [], ◌∷◌, refl, arith, Data, YEAR_SPLIT, SPECIFIED_ANNUAL_DEMAND, SPECIFIED_DEMAND_PROFILE, CAPACITY_TO_ACTIVITY_UNIT, RESIDUAL_CAPACITY, INPUT_ACTIVITY_RATIO, OUTPUT_ACTIVITY_RATIO, RESERVE_MARGIN_TAG_TECHNOLOGY, RESERVE_MARGIN_TAG_FUEL, RE_TAG_TECHNOLOGY, RE_TAG_FUEL, capacity_to_activity_unit, fuel_name, input_activity_ratio, mode_name, output_activity_ratio, re_tag_fuel, re_tag_technology, region_name, reserve_margin_tag_fuel, reserve_margin_tag_technology, residual_capacity, slice_name, specified_annual_demand, specified_demand_profile, technology_name, year_name, year_split, Billionths, AreComplete}
 use Rattle.model_sets.specs.Names as sets
-use Rattle.model_sets.specs.declared.param_numbers.TheConstants.{YEAR_SPLIT, SPECIFIED_ANNUAL_DEMAND, SPECIFIED_DEMAND_PROFILE, CAPACITY_TO_ACTIVITY_UNIT, RESIDUAL_CAPACITY, INPUT_ACTIVITY_RATIO, OUTPUT_ACTIVITY_RATIO, RESERVE_MARGIN_TAG_TECHNOLOGY, RESERVE_MARGIN_TAG_FUEL, RE_TAG_TECHNOLOGY, RE_TAG_FUEL}
-use Rattle.named_equations.specs.Parameters.{capacity_to_activity_unit, fuel_name, input_activity_ratio, mode_name, output_activity_ratio, re_tag_fuel, re_tag_technology, region_name, reserve_margin_tag_fuel, reserve_margin_tag_technology, residual_capacity, slice_name, specified_annual_demand, specified_demand_profile, technology_name, year_name, year_split}
-use Rattle.row_core.specs.Amounts.{Billionths}
-use Rattle.param_tables.specs.Built.{AreComplete}
 use Rattle.row_book.proofs.GivenValues.{Has-member, value-at_least}
 use Rattle.row_book.proofs.SignLaws.{IsAtLeastZero, at_least_zero-billionths}
 use Rattle.row_book.proofs.Subscripts.{In}

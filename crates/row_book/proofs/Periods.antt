@@ -1,16 +1,7 @@
 -- The years of the model period and the lives of a region, as numbers.
-use Rattle.std.proofs.Common.{◌≡◌, ℕ, ◌≤◌, ◌&&◌, ◌⊎◌, inl, inr, true, cond, zero, suc, length, List, [], ◌∷◌, ◌++◌, map, refl, nat_le, Some, leb-true, ap, sym, subst, arith}
-use Rattle.std.specs.List.{AllByRecursion}
-use Rattle.std.specs.Prelude.{All, Contains, slice_get}
-use Rattle.std.specs.Str.{bytes_eq}
+use Rattle.row_book.proofs.Common.{◌≡◌, ℕ, ◌≤◌, ◌&&◌, ◌⊎◌, inl, inr, true, cond, zero, suc, length, List, [], ◌∷◌, ◌++◌, map, refl, nat_le, Some, leb-true, ap, sym, subst, arith, AllByRecursion, All, Contains, slice_get, bytes_eq, and_parts, recursion_from_All, is_lt, nat_cmp, ord_max, cases_order, nat_cmp-equal, nat_cmp-greater, nat_cmp-less, Has, Has-from_Contains}
 use Rattle.std.specs.Fmt.{decimal}
-use Rattle.std.proofs.lemmas.Bool.{and_parts}
-use Rattle.std.proofs.lemmas.List.Elements.{recursion_from_All}
-use Rattle.std.specs.Ordering.{is_lt, nat_cmp, ord_max}
-use Rattle.std.proofs.lemmas.Bool.{cases_order}
-use Rattle.exact_num.proofs.OrderLaws.{nat_cmp-equal, nat_cmp-greater, nat_cmp-less}
 use Rattle.model_sets.specs.Years.{is_year, number_of}
-use Rattle.row_core.proofs.Members.{Has, Has-from_Contains}
 
 -- ---- years
 

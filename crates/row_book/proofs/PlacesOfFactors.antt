@@ -1,19 +1,6 @@
 -- The factors of the regions have the places for which they were made, where there is a region; without one there is no instance.
-use Rattle.std.proofs.Common.{◌≡◌, ℕ, zero, suc, ◌+◌, ◌<◌, ◌≤◌, List, [], ◌∷◌, ◌++◌, refl, sym, ap, ◌∙◌, subst, arith}
-use Rattle.std.specs.List.{flat_map, range_with_len}
-use Rattle.discount_factors.specs.Known.{Discounting}
-use Rattle.model_sets.specs.Data.{Data}
+use Rattle.row_book.proofs.Common.{◌≡◌, ℕ, zero, suc, ◌+◌, ◌<◌, ◌≤◌, List, [], ◌∷◌, ◌++◌, refl, sym, ap, ◌∙◌, subst, arith, flat_map, range_with_len, Discounting, Data, Row, RowName, EQUATION_COUNT, instances, instances_of, count_of, AreRegionFactors, places_of, AreRowsOf, CanBeMade, HasStopped, instances_in, BookFail, Width, TooManyEntries, Memory}
 use Rattle.model_sets.specs.Names as sets
-use Rattle.row_core.specs.declared.Row.{Row}
-use Rattle.row_core.specs.declared.RowName.{RowName}
-use Rattle.row_core.specs.declared.equation_numbers.TheConstants.{EQUATION_COUNT}
-use Rattle.named_equations.specs.Instances.{instances, instances_of}
-use Rattle.named_equations.specs.Positions.{count_of}
-use Rattle.named_equations.specs.RegionFactors.{AreRegionFactors, places_of}
-use Rattle.row_book.specs.Books.{AreRowsOf, CanBeMade, HasStopped}
-use Rattle.row_book.specs.Walks.{instances_in}
-use Rattle.row_book.specs.declared.fail.BookFail.{BookFail}
-use Rattle.row_book.specs.declared.fail.BookFail.TheVariants.{Width, TooManyEntries, Memory}
 use Rattle.row_book.proofs.Regions.{instances-regions}
 
 -- ---- no region

@@ -1,31 +1,8 @@
 -- Where a ratio isn't 0: the indices that are asked, and those without their mode.
-use Rattle.std.proofs.Common.{◌≡◌, ℕ, Bool, true, false, inl, inr, List, [], ◌∷◌, map, refl, ap, sym, ◌∙◌, subst}
-use Rattle.std.specs.Cmp.{IsEquivalence}
-use Rattle.std.specs.List.{AllByRecursion, dedup, list_any}
-use Rattle.std.specs.List.Sorted.{IsPermutation, IsSorted, IsStrictlySortedBy}
-use Rattle.std.specs.Ordering.{eq_by_cmp, is_eq, ordering_reverse}
+use Rattle.row_book.proofs.Common.{◌≡◌, ℕ, Bool, true, false, inl, inr, List, [], ◌∷◌, map, refl, ap, sym, ◌∙◌, subst, IsEquivalence, AllByRecursion, dedup, list_any, IsPermutation, IsSorted, IsStrictlySortedBy, eq_by_cmp, is_eq, ordering_reverse, Ordering, Less, Equal, Greater, eq_by_cmp_equiv, Contains-dedup, Contains-from_dedup, IsStrictlySortedBy-dedup, Contains-permutation, IsPermutation-sym, index_cmp, index_cmp_exact, Data, Index, ActivityRatio, Input, Output, Emission, at_r, index, values_at, modes, from_e, from_f, from_m, from_y, sorted_t, Contains-from_Has, Has, Has-flat_map, Has-from_Contains, flat_map_parts, Every, Sorted, Sorted-filter, cells_of_ratio, cells_of_some_mode, has_ratio, has_some_ratio, ratio_subscripts, subscripts_but_mode, with_mode, inner_subscripts, walk}
 use Rattle.std.specs.Prelude.{◌||◌}
-use Rattle.std.specs.declared.cmp.Ordering.{Ordering}
-use Rattle.std.specs.declared.cmp.Ordering.TheVariants.{Less, Equal, Greater}
-use Rattle.std.proofs.lemmas.Cmp.{eq_by_cmp_equiv}
-use Rattle.std.proofs.lemmas.List.Kept.{Contains-dedup, Contains-from_dedup, IsStrictlySortedBy-dedup}
-use Rattle.std.proofs.lemmas.List.Sorted.{Contains-permutation, IsPermutation-sym}
-use Rattle.row_core.specs.Order.{index_cmp}
 use Rattle.row_core.specs.OrderLaws.{index_cmp_total}
-use Rattle.row_core.proofs.Orders.{index_cmp_exact}
-use Rattle.model_sets.specs.Data.{Data}
-use Rattle.row_core.specs.declared.Index.{Index}
 use Rattle.row_core.specs.Subscripts as place
-use Rattle.param_tables.specs.declared.ratios.ActivityRatio.{ActivityRatio}
-use Rattle.param_tables.specs.declared.ratios.ActivityRatio.TheVariants.{Input, Output, Emission}
-use Rattle.named_equations.specs.Indices.{at_r, index}
-use Rattle.named_equations.specs.Instances.{values_at}
-use Rattle.named_equations.specs.Positions.{modes}
-use Rattle.named_equations.proofs.InstanceOrder.{from_e, from_f, from_m, from_y, sorted_t}
-use Rattle.row_core.proofs.Members.{Contains-from_Has, Has, Has-flat_map, Has-from_Contains, flat_map_parts}
-use Rattle.named_equations.proofs.SortedLists.{Every, Sorted, Sorted-filter}
-use Rattle.row_book.specs.Ratios.{cells_of_ratio, cells_of_some_mode, has_ratio, has_some_ratio, ratio_subscripts, subscripts_but_mode, with_mode}
-use Rattle.row_book.specs.Walks.{inner_subscripts, walk}
 use Rattle.row_book.proofs.Elements.{Has-filter, Has-map, filter_parts, map_parts}
 
 -- ---- what is walked

@@ -1,17 +1,6 @@
 -- The indices of a ratio that the data list are those of the walk through its subscripts.
 use Rattle.std.proofs.Common.{◌≡◌, ℕ, Bool, true, false, if◌then◌else◌, List, [], ◌∷◌, map, filter, refl, ap, sym, ◌∙◌}
-use Rattle.std.specs.List.{flat_map}
-use Rattle.std.proofs.lemmas.List.{append-nil}
-use Rattle.model_sets.specs.Data.{Data}
-use Rattle.named_equations.specs.Indices.{at_r, index}
-use Rattle.named_equations.specs.Positions.{all_years, emissions, fuels, modes, technologies}
-use Rattle.param_tables.specs.Ratios.{is_nonzero_in, nonzero_indices, ratio_index, ratio_indices}
-use Rattle.param_tables.specs.declared.ratios.ActivityRatio.{ActivityRatio}
-use Rattle.param_tables.specs.declared.ratios.ActivityRatio.TheVariants.{Input, Output, Emission}
-use Rattle.param_tables.specs.declared.ratios.RatioIndex.{RatioIndex}
-use Rattle.row_core.specs.declared.Index.{Index}
-use Rattle.row_book.specs.Ratios.{cell_at, cells_of_ratio, has_ratio, ratio_subscripts}
-use Rattle.row_book.specs.Walks.{inner_subscripts, walk}
+use Rattle.row_book.proofs.Common.{flat_map, append-nil, Data, at_r, index, all_years, emissions, fuels, modes, technologies, is_nonzero_in, nonzero_indices, ratio_index, ratio_indices, ActivityRatio, Input, Output, Emission, RatioIndex, Index, cell_at, cells_of_ratio, has_ratio, ratio_subscripts, inner_subscripts, walk}
 use Rattle.row_book.proofs.Lists.{flat_map-same, map-flat_map}
 
 -- ---- lists

@@ -1,19 +1,8 @@
 -- The indices of an equation are those of its regions one after another, and in a region those of one list of inner subscripts with each of the outer ones.
 use Rattle.std.proofs.Common.{◌≡◌, ℕ, ◌+◌, ◌<◌, ◌-◌, Bool, true, false, List, [], ◌∷◌, ◌++◌, map, filter, cond, refl, ap, sym, ◌∙◌, subst, arith}
-use Rattle.std.specs.List.{AllByRecursion, flat_map, list_all, range_with_len}
-use Rattle.std.specs.Prelude.{if◌then◌else◌}
-use Rattle.std.proofs.lemmas.List.{append-nil}
-use Rattle.model_sets.specs.Data.{Data}
+use Rattle.row_book.proofs.Common.{AllByRecursion, flat_map, list_all, range_with_len, if◌then◌else◌, append-nil, Data, Index, RowName, IsEquation, at_r, equation_numbers, indices, instances_of, is_index, is_one_of, name_at, stands_at, subscripts_of, values_at, count_of, positions, indices-pass, AreAsked, inner_subscripts, inners_of, instance_at, instances_in, instances_with, joined, moved, outer_subscripts, outers_of, place_of, walk}
 use Rattle.model_sets.specs.Names as sets
-use Rattle.row_core.specs.declared.Index.{Index}
-use Rattle.row_core.specs.declared.RowName.{RowName}
-use Rattle.row_core.specs.Equations.{IsEquation}
 use Rattle.row_core.specs.Subscripts as place
-use Rattle.named_equations.specs.Indices.{at_r}
-use Rattle.named_equations.specs.Instances.{equation_numbers, indices, instances_of, is_index, is_one_of, name_at, stands_at, subscripts_of, values_at}
-use Rattle.named_equations.specs.Positions.{count_of, positions}
-use Rattle.named_equations.proofs.InstanceTests.{indices-pass}
-use Rattle.row_book.specs.Walks.{AreAsked, inner_subscripts, inners_of, instance_at, instances_in, instances_with, joined, moved, outer_subscripts, outers_of, place_of, walk}
 use Rattle.row_book.specs.declared.walk.Subscript.{Subscript}
 use Rattle.row_book.proofs.Lists.{AllByRecursion-filter, AllByRecursion-flat_map, AllByRecursion-from_map, AllByRecursion-middle, AllByRecursion-weaker, all-from, flat_map-alike, flat_map-flat_map, flat_map-kept, flat_map-map, flat_map-same, map-flat_map}
 use Rattle.row_book.proofs.Numbers.{passes-at}

@@ -1,12 +1,6 @@
 -- A row in the place of its twin: examples, and near misses.
-use Rattle.std.proofs.Common.{◌≡◌, ◌≢◌, ◌+◌, ◌++◌, pos, negsuc, true, false, List, [], ◌∷◌, length, length-append, refl, ap, ap₂, sym, ◌∙◌, arith, true≢false}
-use Rattle.row_core.specs.declared.Row.{Row}
-use Rattle.row_core.specs.declared.RowName.{RowName}
+use Rattle.row_book.proofs.Common.{◌≡◌, ◌≢◌, ◌+◌, ◌++◌, pos, negsuc, true, false, List, [], ◌∷◌, length, length-append, refl, ap, ap₂, sym, ◌∙◌, arith, true≢false, Row, RowName, CC1, TCC1, TCC2, variable_of, capital_investment, new_capacity, AreTwins, IsReplaced, same_variables}
 use Rattle.row_core.specs.declared.Sense.TheVariants.{Equal, Most}
-use Rattle.row_core.specs.declared.equation_numbers.TheConstants.{CC1, TCC1, TCC2}
-use Rattle.named_equations.specs.Instances.{variable_of}
-use Rattle.named_equations.specs.Variables.{capital_investment, new_capacity}
-use Rattle.row_book.specs.Replaced.{AreTwins, IsReplaced, same_variables}
 use Rattle.row_book.proofs.Examples.{at_zeros}
 
 -- numbers may differ; variables may not, nor how many there are

@@ -1,23 +1,7 @@
 -- A book keeps what it keeps where an inequality stands in the place of its twin: neither defines a variable.
-use Rattle.std.proofs.Common.{◌≡◌, ℕ, zero, suc, ◌<◌, ℤ, List, [], ◌∷◌, ◌++◌, length, Bool, true, false, ◌&&◌, Some, None, inl, inr, refl, sym, ap, ap₂, ◌∙◌, subst, arith, true≢false}
-use Rattle.std.proofs.lemmas.Bool.{and_parts}
+use Rattle.row_book.proofs.Common.{◌≡◌, ℕ, zero, suc, ◌<◌, ℤ, List, [], ◌∷◌, ◌++◌, length, Bool, true, false, ◌&&◌, Some, None, inl, inr, refl, sym, ap, ap₂, ◌∙◌, subst, arith, true≢false, and_parts, is_eq, Ordering, Row, RowName, Var, ascends, variables_of, row_name_cmp, var_cmp, var_cmp_exact, variable_of, Contains-from_Has, Has, Has-from_Contains, AreVariablesOf, entry_variables, names_of, AreTriangular, Defines, IsAt, IsDefinedIn, IsRepeatedIn, IsBook, AreTwins, IsReplaced, same_variables, HaveSigns}
 use Rattle.std.specs.Prelude.{◌⊎◌, ◌↔◌, Contains, slice_set}
-use Rattle.std.specs.Ordering.{is_eq}
-use Rattle.std.specs.declared.cmp.Ordering.{Ordering}
 use Rattle.std.specs.declared.cmp.Ordering.TheVariants.{Less, Equal as Alike, Greater}
-use Rattle.row_core.specs.declared.Row.{Row}
-use Rattle.row_core.specs.declared.RowName.{RowName}
-use Rattle.row_core.specs.declared.Var.{Var}
-use Rattle.row_core.specs.Numbers.{ascends, variables_of}
-use Rattle.row_core.specs.Order.{row_name_cmp, var_cmp}
-use Rattle.row_core.proofs.Orders.{var_cmp_exact}
-use Rattle.named_equations.specs.Instances.{variable_of}
-use Rattle.row_core.proofs.Members.{Contains-from_Has, Has, Has-from_Contains}
-use Rattle.row_core.specs.RowLists.{AreVariablesOf, entry_variables, names_of}
-use Rattle.row_book.specs.Definitions.{AreTriangular, Defines, IsAt, IsDefinedIn, IsRepeatedIn}
-use Rattle.row_book.specs.Kept.{IsBook}
-use Rattle.row_book.specs.Replaced.{AreTwins, IsReplaced, same_variables}
-use Rattle.row_book.specs.Signs.{HaveSigns}
 
 -- ---- entries at the same variables
 

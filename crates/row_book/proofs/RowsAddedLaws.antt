@@ -1,26 +1,6 @@
 -- Rows that are made for one list of instances after another, and the first that can't be.
-use Rattle.std.proofs.Common.{◌≡◌, ℕ, ◌+◌, ◌-◌, ◌<◌, ◌≤◌, Bool, true, false, not, ◌&&◌, ◌||◌, length, get_or, take, drop, suc, List, [], ◌∷◌, ◌++◌, refl, ap, sym, ◌∙◌, subst, arith}
-use Rattle.std.specs.List.{flat_map, list_all, range_with_len}
-use Rattle.std.specs.Prelude.{if◌then◌else◌}
-use Rattle.std.specs.Cmp.Derive.{both_true}
+use Rattle.row_book.proofs.Common.{◌≡◌, ℕ, ◌+◌, ◌-◌, ◌<◌, ◌≤◌, Bool, true, false, not, ◌&&◌, ◌||◌, length, get_or, take, drop, suc, List, [], ◌∷◌, ◌++◌, refl, ap, sym, ◌∙◌, subst, arith, flat_map, list_all, range_with_len, if◌then◌else◌, both_true, list_all-append, sum_by-append, Data, Row, RowName, Place, Stopped, IsStop, stands_at, IsNamedRow, AreRowsOf, CanBeMade, HasStopped, StopsAt, row_fits, entries_in, entry_count, entry_limit, terms_at, AddsRows, instance_at, BookFail, Width, TooManyEntries, Memory, MadeRows}
 use Rattle.std.proofs.lemmas.List.{append-nil, append_assoc, take_more}
-use Rattle.std.proofs.lemmas.List.Folds.{list_all-append}
-use Rattle.std.proofs.lemmas.List.Sums.{sum_by-append}
-use Rattle.model_sets.specs.Data.{Data}
-use Rattle.row_core.specs.declared.Row.{Row}
-use Rattle.row_core.specs.declared.RowName.{RowName}
-use Rattle.row_core.specs.declared.place.Place.{Place}
-use Rattle.row_core.specs.declared.place.Stopped.{Stopped}
-use Rattle.row_core.specs.Stops.{IsStop}
-use Rattle.named_equations.specs.Instances.{stands_at}
-use Rattle.named_equations.specs.RowMeaning.{IsNamedRow}
-use Rattle.row_book.specs.Books.{AreRowsOf, CanBeMade, HasStopped, StopsAt, row_fits, entries_in, entry_count, entry_limit}
-use Rattle.row_book.specs.EquationRows.{terms_at}
-use Rattle.row_book.specs.RowsAdded.{AddsRows}
-use Rattle.row_book.specs.Walks.{instance_at}
-use Rattle.row_book.specs.declared.fail.BookFail.{BookFail}
-use Rattle.row_book.specs.declared.fail.BookFail.TheVariants.{Width, TooManyEntries, Memory}
-use Rattle.row_book.specs.declared.made_rows.MadeRows.{MadeRows}
 use Rattle.row_book.proofs.Lists.{flat_map-middle, flat_map-last}
 use Rattle.row_book.proofs.Places.{list-middle, take-past}
 use Rattle.row_book.proofs.Ranges.{range-last, range-middle}

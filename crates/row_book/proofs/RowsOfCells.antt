@@ -1,28 +1,6 @@
 -- The rows of the first inner subscripts with one of the outer ones, where each of them has a row with an entry.
-use Rattle.std.proofs.Common.{◌≡◌, ℕ, ◌+◌, ◌<◌, ◌≤◌, ℤ, pos, true, inl, inr, List, [], ◌∷◌, ◌++◌, Some, length, suc, ap, sym, ◌∙◌, subst, arith}
-use Rattle.std.specs.List.{AllByRecursion}
-use Rattle.std.specs.Prelude.{◌<ℤ◌}
-use Rattle.std.proofs.lemmas.Grind.{flat_map-append}
-use Rattle.std.proofs.lemmas.Int.{ints}
-use Rattle.std.proofs.lemmas.List.{append-nil}
-use Rattle.std.proofs.lemmas.List.Sums.{sum_by-cons}
-use Rattle.model_sets.specs.Data.{Data}
+use Rattle.row_book.proofs.Common.{◌≡◌, ℕ, ◌+◌, ◌<◌, ◌≤◌, ℤ, pos, true, inl, inr, List, [], ◌∷◌, ◌++◌, Some, length, suc, ap, sym, ◌∙◌, subst, arith, AllByRecursion, ◌<ℤ◌, flat_map-append, ints, append-nil, sum_by-cons, Data, Index, Row, RowName, Var, IsEquation, number_at, name_at, stands_at, variable_of, count_of, IsNamedRow, AreRowsOf, HasStopped, entries_in, entry_count, entry_limit, terms_at, AddsRows, AreFirstAsked, inners_of, instance_at, instances_with, joined, outers_of, BookFail, MadeRows}
 use Rattle.model_sets.specs.Names as sets
-use Rattle.row_core.specs.declared.Index.{Index}
-use Rattle.row_core.specs.declared.Row.{Row}
-use Rattle.row_core.specs.declared.RowName.{RowName}
-use Rattle.row_core.specs.declared.Var.{Var}
-use Rattle.row_core.specs.Equations.{IsEquation}
-use Rattle.row_core.specs.Rows.{number_at}
-use Rattle.named_equations.specs.Instances.{name_at, stands_at, variable_of}
-use Rattle.named_equations.specs.Positions.{count_of}
-use Rattle.named_equations.specs.RowMeaning.{IsNamedRow}
-use Rattle.row_book.specs.Books.{AreRowsOf, HasStopped, entries_in, entry_count, entry_limit}
-use Rattle.row_book.specs.EquationRows.{terms_at}
-use Rattle.row_book.specs.RowsAdded.{AddsRows}
-use Rattle.row_book.specs.Walks.{AreFirstAsked, inners_of, instance_at, instances_with, joined, outers_of}
-use Rattle.row_book.specs.declared.fail.BookFail.{BookFail}
-use Rattle.row_book.specs.declared.made_rows.MadeRows.{MadeRows}
 use Rattle.row_book.proofs.Lists.{AllByRecursion-parts}
 use Rattle.row_book.proofs.Regions.{IsIndex, asked-within, instances-asked}
 use Rattle.row_book.proofs.RowsAddedLaws.{entries-counted, instance-listed, stops-earlier}

@@ -1,20 +1,6 @@
 -- Two data that are the same have the same terms of cost and of emissions of technologies, at positions in the sets.
-use Rattle.std.proofs.Common.{◌≡◌, ℕ, Bool, true, false, List, refl, ap}
-use Rattle.std.specs.Prelude.{if◌then◌else◌}
-use Rattle.model_sets.specs.Data.{Data, Default, Given}
+use Rattle.row_book.proofs.Common.{◌≡◌, ℕ, Bool, true, false, List, refl, ap, if◌then◌else◌, Data, Default, Given, Index, CC1, CC2, SV1, SV2, SV3, SV4, OC1, OC2, OC3, OC4, E1, E2, E3, E4, E5, TDC1, TDC2, ACC4, Var, Amount, Billionths, Negative, capital_cost, variable_cost, count_of, years_in_all, years_since_first, is_times, capital_investment, new_capacity, total_annual_technology_activity_by_mode, annuity_of-same, capital_factor_of-same, emitting_modes-same, operating_factor_of-same, recovery_factor_of-same, salvage_fraction_of-same, capital_cost-same, emission_activity_ratio-same, emissions_penalty-same, fixed_cost-same, variable_cost-same, Agree, map-same, with_values, ◌also◌, EachFrom}
 use Rattle.model_sets.specs.Names as sets
-use Rattle.row_core.specs.declared.Index.{Index}
-use Rattle.row_core.specs.declared.equation_numbers.TheConstants.{CC1, CC2, SV1, SV2, SV3, SV4, OC1, OC2, OC3, OC4, E1, E2, E3, E4, E5, TDC1, TDC2, ACC4}
-use Rattle.row_core.specs.declared.Var.{Var}
-use Rattle.row_core.specs.Amounts.{Amount, Billionths, Negative}
-use Rattle.named_equations.specs.Parameters.{capital_cost, variable_cost}
-use Rattle.named_equations.specs.Positions.{count_of, years_in_all, years_since_first}
-use Rattle.named_equations.specs.TermShapes.{is_times}
-use Rattle.named_equations.specs.Variables.{capital_investment, new_capacity, total_annual_technology_activity_by_mode}
-use Rattle.named_equations.proofs.SameConditions.{annuity_of-same, capital_factor_of-same, emitting_modes-same, operating_factor_of-same, recovery_factor_of-same, salvage_fraction_of-same}
-use Rattle.named_equations.proofs.SameParameters.{capital_cost-same, emission_activity_ratio-same, emissions_penalty-same, fixed_cost-same, variable_cost-same}
-use Rattle.named_equations.proofs.SameValues.{Agree, map-same, with_values, ◌also◌}
-use Rattle.named_equations.proofs.TermMeaning.{EachFrom}
 use Rattle.cost_rows.specs.Costs.{recovered_cost}
 use Rattle.row_book.proofs.SameTerms.{TermsSame}
 

@@ -1,18 +1,6 @@
 -- Two data that are the same have the same terms of capacity adequacy, demand, the energy balance and accounting, at positions in the sets.
-use Rattle.std.proofs.Common.{ℕ, List, refl}
-use Rattle.model_sets.specs.Data.{Data, Default, Given}
+use Rattle.row_book.proofs.Common.{ℕ, List, refl, Data, Default, Given, Index, EQ_SPECIFIED_DEMAND, CAA1, CAA2, CAA3, CAA4, CAB1, EBA1, EBA2, EBA3, EBA4, EBA5, EBA6, EBA7, EBA8, EBA9, EBA10, EBA11, EBB1, EBB2, EBB3, EBB4, ACC1, ACC2, ACC3, Var, Amount, Billionths, Product, Negative, year_split, trade_route, capacity_factor, count_of, rate_of_activity, trade, rate_of_total_activity, trade_annual, producing_modes-same, producing_technologies-same, using_modes-same, using_technologies-same, years_counting-same, accumulated_annual_demand-same, availability_factor-same, capacity_factor-same, capacity_to_activity_unit-same, input_activity_ratio-same, output_activity_ratio-same, residual_capacity-same, specified_annual_demand-same, specified_demand_profile-same, trade_route-same, year_split-same, Agree, map-same, with_values, ◌also◌, EachFrom}
 use Rattle.model_sets.specs.Names as sets
-use Rattle.row_core.specs.declared.Index.{Index}
-use Rattle.row_core.specs.declared.equation_numbers.TheConstants.{EQ_SPECIFIED_DEMAND, CAA1, CAA2, CAA3, CAA4, CAB1, EBA1, EBA2, EBA3, EBA4, EBA5, EBA6, EBA7, EBA8, EBA9, EBA10, EBA11, EBB1, EBB2, EBB3, EBB4, ACC1, ACC2, ACC3}
-use Rattle.row_core.specs.declared.Var.{Var}
-use Rattle.row_core.specs.Amounts.{Amount, Billionths, Product, Negative}
-use Rattle.named_equations.specs.Parameters.{year_split, trade_route, capacity_factor}
-use Rattle.named_equations.specs.Positions.{count_of}
-use Rattle.named_equations.specs.Variables.{rate_of_activity, trade, rate_of_total_activity, trade_annual}
-use Rattle.named_equations.proofs.SameConditions.{producing_modes-same, producing_technologies-same, using_modes-same, using_technologies-same, years_counting-same}
-use Rattle.named_equations.proofs.SameParameters.{accumulated_annual_demand-same, availability_factor-same, capacity_factor-same, capacity_to_activity_unit-same, input_activity_ratio-same, output_activity_ratio-same, residual_capacity-same, specified_annual_demand-same, specified_demand_profile-same, trade_route-same, year_split-same}
-use Rattle.named_equations.proofs.SameValues.{Agree, map-same, with_values, ◌also◌}
-use Rattle.named_equations.proofs.TermMeaning.{EachFrom}
 use Rattle.row_book.proofs.SameTerms.{TermsSame, total-same}
 
 module _ {d : Data} {given : List Given} {defaults : List Default} (same : Agree d given defaults) (places : ℕ) where

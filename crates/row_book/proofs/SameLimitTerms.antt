@@ -1,20 +1,6 @@
 -- Two data that are the same have the same terms of limits, the reserve margin, the renewable target and emissions of regions, at positions in the sets.
-use Rattle.std.proofs.Common.{ℕ, List, refl, ap, ◌∙◌}
-use Rattle.model_sets.specs.Data.{Data, Default, Given}
+use Rattle.row_book.proofs.Common.{ℕ, List, refl, ap, ◌∙◌, Data, Default, Given, Index, TCC1, TCC2, NCC1, NCC2, AAC1, AAC2, AAC3, TAC1, TAC2, TAC3, RM1, RM2, RM3, RE1, RE2, RE3, RE4, RE5, E6, E7, E8, E9, Var, Amount, Billionths, Product, Negative, each, year_split, capacity_to_activity_unit, reserve_margin_tag_technology, reserve_margin_tag_fuel, re_tag_technology, re_tag_fuel, count_of, fuels, total_capacity_annual, rate_of_total_activity, rate_of_production, production_by_technology_annual, produces, producing_technologies, producing_technologies-same, annual_emission_limit-same, annual_exogenous_emission-same, capacity_to_activity_unit-same, model_period_emission_limit-same, model_period_exogenous_emission-same, re_min_production_target-same, re_tag_fuel-same, re_tag_technology-same, reserve_margin-same, reserve_margin_tag_fuel-same, reserve_margin_tag_technology-same, total_annual_max_capacity-same, total_annual_max_capacity_investment-same, total_annual_min_capacity-same, total_annual_min_capacity_investment-same, total_technology_annual_activity_lower_limit-same, total_technology_annual_activity_upper_limit-same, total_technology_model_period_activity_lower_limit-same, total_technology_model_period_activity_upper_limit-same, year_split-same, Agree, lists-same, map-same, with_values, ◌also◌, EachFrom}
 use Rattle.model_sets.specs.Names as sets
-use Rattle.row_core.specs.declared.Index.{Index}
-use Rattle.row_core.specs.declared.equation_numbers.TheConstants.{TCC1, TCC2, NCC1, NCC2, AAC1, AAC2, AAC3, TAC1, TAC2, TAC3, RM1, RM2, RM3, RE1, RE2, RE3, RE4, RE5, E6, E7, E8, E9}
-use Rattle.row_core.specs.declared.Var.{Var}
-use Rattle.row_core.specs.Amounts.{Amount, Billionths, Product, Negative}
-use Rattle.row_core.specs.EquationTerms.{each}
-use Rattle.named_equations.specs.Parameters.{year_split, capacity_to_activity_unit, reserve_margin_tag_technology, reserve_margin_tag_fuel, re_tag_technology, re_tag_fuel}
-use Rattle.named_equations.specs.Positions.{count_of, fuels}
-use Rattle.named_equations.specs.Variables.{total_capacity_annual, rate_of_total_activity, rate_of_production, production_by_technology_annual}
-use Rattle.named_equations.specs.Where.{produces, producing_technologies}
-use Rattle.named_equations.proofs.SameConditions.{producing_technologies-same}
-use Rattle.named_equations.proofs.SameParameters.{annual_emission_limit-same, annual_exogenous_emission-same, capacity_to_activity_unit-same, model_period_emission_limit-same, model_period_exogenous_emission-same, re_min_production_target-same, re_tag_fuel-same, re_tag_technology-same, reserve_margin-same, reserve_margin_tag_fuel-same, reserve_margin_tag_technology-same, total_annual_max_capacity-same, total_annual_max_capacity_investment-same, total_annual_min_capacity-same, total_annual_min_capacity_investment-same, total_technology_annual_activity_lower_limit-same, total_technology_annual_activity_upper_limit-same, total_technology_model_period_activity_lower_limit-same, total_technology_model_period_activity_upper_limit-same, year_split-same}
-use Rattle.named_equations.proofs.SameValues.{Agree, lists-same, map-same, with_values, ◌also◌}
-use Rattle.named_equations.proofs.TermMeaning.{EachFrom}
 use Rattle.row_book.proofs.SameTerms.{TermsSame, chosen-same}
 
 module _ {d : Data} {given : List Given} {defaults : List Default} (same : Agree d given defaults) (places : ℕ) where

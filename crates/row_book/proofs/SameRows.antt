@@ -1,29 +1,9 @@
 -- Two data that are the same have the same rows: the same terms at each instance, so that the same rows can be made, or the same one can't.
-use Rattle.std.proofs.Common.{◌≡◌, ℕ, ◌+◌, ◌<◌, ◌≤◌, true, ◌&&◌, List, [], ◌∷◌, ◌++◌, ap, ap₂, sym, ◌∙◌, refl, subst, arith, inl, inr}
+use Rattle.row_book.proofs.Common.{◌≡◌, ℕ, ◌+◌, ◌<◌, ◌≤◌, true, ◌&&◌, List, [], ◌∷◌, ◌++◌, ap, ap₂, sym, ◌∙◌, refl, subst, arith, inl, inr, list_all, cases_lt, sum_by-cons, AreSameData, Data, Default, Given, Row, RowName, Var, all_fit, EquationTerms, IsRowOf, equation_formed, right_of, terms_of, written_entries, RowHolds, instances, is_instance, subscripts_of, IsNamedRow, Has, Has-append_left, Has-append_right, Has-instances, are_in_sets, Agree, with_values, at_number, AreRowsOf, CanBeMade, HasTooMany, IsTooWide, StopsAt, entries_in, entry_count, entry_limit, row_fits, terms_at}
 use Rattle.std.specs.Prelude.{ℤ, ◌↔◌, length}
-use Rattle.std.specs.List.{list_all}
-use Rattle.std.proofs.lemmas.Bool.{cases_lt}
-use Rattle.std.proofs.lemmas.List.Sums.{sum_by-cons}
-use Rattle.model_sets.specs.Data.{AreSameData, Data, Default, Given}
-use Rattle.row_core.specs.declared.Row.{Row}
-use Rattle.row_core.specs.declared.RowName.{RowName}
-use Rattle.row_core.specs.declared.Var.{Var}
-use Rattle.exact_num.specs.Range.{all_fit}
-use Rattle.row_core.specs.EquationTerms.{EquationTerms, IsRowOf, equation_formed, right_of, terms_of}
-use Rattle.row_core.specs.Written.{written_entries}
-use Rattle.row_core.specs.Rows.{RowHolds}
 use Rattle.row_core.specs.Statements.{Holds, Statement}
-use Rattle.named_equations.specs.Instances.{instances, is_instance, subscripts_of}
 use Rattle.named_equations.specs.Plans.{says}
-use Rattle.named_equations.specs.RowMeaning.{IsNamedRow}
-use Rattle.row_core.proofs.Members.{Has, Has-append_left, Has-append_right}
-use Rattle.named_equations.proofs.InstanceTests.{Has-instances}
-use Rattle.named_equations.proofs.PositionsInSets.{are_in_sets}
 use Rattle.named_equations.proofs.SameInstances.{agree, back, same-instances, same-says, with_sets}
-use Rattle.named_equations.proofs.SameValues.{Agree, with_values}
-use Rattle.named_equations.proofs.TermMeaning.{at_number}
-use Rattle.row_book.specs.Books.{AreRowsOf, CanBeMade, HasTooMany, IsTooWide, StopsAt, entries_in, entry_count, entry_limit, row_fits}
-use Rattle.row_book.specs.EquationRows.{terms_at}
 use Rattle.row_book.proofs.Instances.{IsInstance, instance-parts}
 use Rattle.row_book.proofs.SameCostTerms.{cost-same}
 use Rattle.row_book.proofs.SameEnergyTerms.{energy-same}

@@ -1,14 +1,7 @@
 -- What it means that two data have the same terms. Sums of amounts, and terms of chosen positions, are the same where what they are made of is
 -- the same at each position of a set.
 use Rattle.std.proofs.Common.{◌≡◌, ℕ, zero, suc, ◌+◌, ◌<◌, Bool, true, false, List, ◌∷◌, pos, cond, map, filter, refl, ap, ap₂, ◌∙◌, arith}
-use Rattle.std.specs.List.{range_with_len}
-use Rattle.model_sets.specs.Data.{Data, Default, Given}
-use Rattle.row_core.specs.declared.Index.{Index}
-use Rattle.row_core.specs.Amounts.{Amount, Whole, Total, total_from, total_over}
-use Rattle.named_equations.specs.Instances.{name_at, subscripts_of}
-use Rattle.named_equations.proofs.PositionsInSets.{AreInSets}
-use Rattle.named_equations.proofs.SameValues.{with_values}
-use Rattle.row_book.specs.EquationRows.{terms_at}
+use Rattle.row_book.proofs.Common.{range_with_len, Data, Default, Given, Index, Amount, Whole, Total, total_from, total_over, name_at, subscripts_of, AreInSets, with_values, terms_at}
 
 -- where its subscripts lie in their sets, the equation of this number has the same terms at the index
 abbrev pub TermsSame : ℕ → Data → List Given → List Default → Index → ℕ → Type 0

@@ -1,32 +1,9 @@
 -- The signs of a row's entries, from those of the terms that it is written of.
-use Rattle.std.proofs.Common.{◌≡◌, ◌≢◌, ℤ, pos, negsuc, ◌+ℤ◌, ◌*ℤ◌, Bool, true, false, ◌⊎◌, inl, inr, List, [], ◌∷◌, refl, sym, ◌∙◌, subst, arith}
-use Rattle.std.specs.List.{AllByRecursion}
-use Rattle.std.specs.Ordering.{int_cmp, is_eq}
-use Rattle.std.specs.Prelude.{◌<ℤ◌, ◌≤ℤ◌, if◌then◌else◌}
-use Rattle.std.specs.declared.cmp.Ordering.{Ordering}
-use Rattle.std.specs.declared.cmp.Ordering.TheVariants.{Less, Equal, Greater}
-use Rattle.std.proofs.lemmas.Int.{ints}
-use Rattle.exact_num.specs.Rational.{IsLowest, Rational, lowest, plus, times}
-use Rattle.exact_num.proofs.Integers.{*ℤ-≤ℤ, *ℤ_nonnegative, *ℤ_pos, nonzero_of_pos, ≤ℤ_cancel, ≤ℤ_or_<ℤ}
-use Rattle.exact_num.proofs.OrderLaws.{int_cmp-equal, int_cmp-greater, int_cmp-less}
-use Rattle.exact_num.proofs.RationalLaws.{lowest-cross, plus-IsLowest, plus-cross, times-IsLowest, times-cross}
+use Rattle.row_book.proofs.Common.{◌≡◌, ◌≢◌, ℤ, pos, negsuc, ◌+ℤ◌, ◌*ℤ◌, Bool, true, false, ◌⊎◌, inl, inr, List, [], ◌∷◌, refl, sym, ◌∙◌, subst, arith, AllByRecursion, int_cmp, is_eq, ◌<ℤ◌, ◌≤ℤ◌, if◌then◌else◌, Ordering, Less, Equal, Greater, ints, IsLowest, Rational, lowest, plus, times, *ℤ-≤ℤ, *ℤ_nonnegative, *ℤ_pos, nonzero_of_pos, ≤ℤ_cancel, ≤ℤ_or_<ℤ, int_cmp-equal, int_cmp-greater, int_cmp-less, lowest-cross, plus-IsLowest, plus-cross, times-IsLowest, times-cross, Row, RowName, Var, Amount, Billionths, Negative, Product, Whole, value_of_amount, EquationTerms, IsRowOf, coefficients_of, right_of, terms_of, var_cmp, number_at, row_sum, IsSumOver, alone, multiple-sign, written-IsMultiple, var_cmp_exact, IsBounded, IsMadeOfParts, Has-from_Contains, variables_of}
 use Rattle.exact_num.proofs.Ring.{*ℤ-one, *ℤ-zero, zero-*ℤ}
-use Rattle.row_core.specs.declared.Row.{Row}
-use Rattle.row_core.specs.declared.RowName.{RowName}
-use Rattle.row_core.specs.declared.Var.{Var}
-use Rattle.row_core.specs.Amounts.{Amount, Billionths, Negative, Product, Whole, value_of_amount}
-use Rattle.row_core.specs.EquationTerms.{EquationTerms, IsRowOf, coefficients_of, right_of, terms_of}
-use Rattle.row_core.specs.Order.{var_cmp}
-use Rattle.row_core.specs.Rows.{number_at, row_sum}
-use Rattle.row_core.specs.Values.{IsSumOver, alone}
-use Rattle.row_core.proofs.MeaningLaws.{multiple-sign, written-IsMultiple}
-use Rattle.row_core.proofs.Orders.{var_cmp_exact}
-use Rattle.row_book.specs.Signs.{IsBounded, IsMadeOfParts}
 use Rattle.row_book.proofs.EntryVariables.{entries-from_terms}
 use Rattle.row_book.proofs.GatheredLaws.{gathered-keep, terms-positive, value_of_amount-IsLowest}
 use Rattle.row_book.proofs.Lists.{AllByRecursion-weaker, all-has}
-use Rattle.row_core.proofs.Members.{Has-from_Contains}
-use Rattle.row_core.specs.Numbers.{variables_of}
 
 -- ---- whole numbers
 

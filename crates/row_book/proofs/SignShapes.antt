@@ -1,17 +1,5 @@
 -- Equations that make a variable of parts that are at least 0, once for each shape that they share.
-use Rattle.std.proofs.Common.{◌≡◌, ℕ, true, false, pos, List, [], ◌∷◌, None, Some, ap, sym, ◌∙◌}
-use Rattle.std.specs.List.{AllByRecursion}
-use Rattle.model_sets.specs.Data.{Data}
-use Rattle.row_core.specs.declared.Index.{Index}
-use Rattle.row_core.specs.declared.Var.{Var}
-use Rattle.row_core.specs.Amounts.{Amount, Negative, Whole}
-use Rattle.row_core.specs.EquationTerms.{each, less}
-use Rattle.row_core.specs.Kinds.{kind_is_free}
-use Rattle.named_equations.specs.Instances.{name_at, subscripts_of, variable_of}
-use Rattle.named_equations.specs.TermShapes.{is_made_of, is_times, products_away, sum_away}
-use Rattle.param_tables.specs.Built.{AreComplete}
-use Rattle.row_book.specs.EquationRows.{terms_at}
-use Rattle.row_book.specs.Signs.{IsBounded}
+use Rattle.row_book.proofs.Common.{◌≡◌, ℕ, true, false, pos, List, [], ◌∷◌, None, Some, ap, sym, ◌∙◌, AllByRecursion, Data, Index, Var, Amount, Negative, Whole, each, less, kind_is_free, name_at, subscripts_of, variable_of, is_made_of, is_times, products_away, sum_away, AreComplete, terms_at, IsBounded}
 use Rattle.row_book.proofs.Lists.{AllByRecursion-map, AllByRecursion-weaker, all-from}
 use Rattle.row_book.proofs.SignLaws.{IsAtLeastZero, IsPart, MakesOfParts, at_least_zero-nothing, less-part, own-part, product-part}
 use Rattle.row_book.proofs.Subscripts.{AreValues}

@@ -1,14 +1,5 @@
 -- There is one reason why the rows of some instances can't be made, and none where they can.
-use Rattle.std.proofs.Common.{◌≡◌, ◌≢◌, ℕ, ◌+◌, ◌<◌, ◌≤◌, ◌⊎◌, true, false, inl, inr, List, [], ◌∷◌, ◌++◌, refl, ap, sym, ◌∙◌, subst, arith}
-use Rattle.std.specs.List.{list_all}
-use Rattle.std.proofs.lemmas.Bool.{and_parts}
-use Rattle.std.proofs.lemmas.List.Sums.{sum_by-cons}
-use Rattle.model_sets.specs.Data.{Data}
-use Rattle.row_core.specs.declared.RowName.{RowName}
-use Rattle.row_core.specs.declared.place.Place.{Place}
-use Rattle.row_book.specs.Books.{CanBeMade, HasStopped, HasTooMany, IsTooWide, entries_in, entry_count, entry_limit, row_fits}
-use Rattle.row_book.specs.declared.fail.BookFail.{BookFail}
-use Rattle.row_book.specs.declared.fail.BookFail.TheVariants.{Width, TooManyEntries, Memory}
+use Rattle.row_book.proofs.Common.{◌≡◌, ◌≢◌, ℕ, ◌+◌, ◌<◌, ◌≤◌, ◌⊎◌, true, false, inl, inr, List, [], ◌∷◌, ◌++◌, refl, ap, sym, ◌∙◌, subst, arith, list_all, and_parts, sum_by-cons, Data, RowName, Place, CanBeMade, HasStopped, HasTooMany, IsTooWide, entries_in, entry_count, entry_limit, row_fits, BookFail, Width, TooManyEntries, Memory}
 
 -- the row of this instance can't be made after the others
 abbrev Blocks : ℕ → Data → ℕ → List RowName → RowName → Type 0

@@ -1,18 +1,7 @@
 -- The subscripts of an index, one by one, and which variables exist at them.
-use Rattle.std.proofs.Common.{◌≡◌, ℕ, zero, suc, ◌+◌, ◌≤◌, Bool, true, false, ◌&&◌, List, [], ◌∷◌, nat_eq, nat_lt, refl, arith, lt-ltb, eqb-true}
-use Rattle.std.specs.Cmp.Derive.{both_true}
-use Rattle.std.specs.List.{AllByRecursion, list_any, range_with_len}
-use Rattle.std.specs.Prelude.{if◌then◌else◌}
-use Rattle.model_sets.specs.Data.{Data}
+use Rattle.row_book.proofs.Common.{◌≡◌, ℕ, zero, suc, ◌+◌, ◌≤◌, Bool, true, false, ◌&&◌, List, [], ◌∷◌, nat_eq, nat_lt, refl, arith, lt-ltb, eqb-true, both_true, AllByRecursion, list_any, range_with_len, if◌then◌else◌, Data, Index, Var, exists, exists_at, kind_numbers, subscripts_of_kind, index, at_r, at_re, at_rey, at_rfy, at_rlfy, at_rltfmy, at_rltfy, at_rltmy, at_rlty, at_rly, at_rrrfy, at_rrrlfy, at_rt, at_rtemy, at_rtey, at_rtfy, at_rtmy, at_rty, at_ry, is_index, is_one_of, is_value_at, count_of, positions, tidied}
 use Rattle.model_sets.specs.Names as sets
-use Rattle.row_core.specs.declared.Index.{Index}
-use Rattle.row_core.specs.declared.Var.{Var}
 use Rattle.row_core.specs.Subscripts as place
-use Rattle.named_equations.specs.Existence.{exists, exists_at, kind_numbers, subscripts_of_kind}
-use Rattle.named_equations.specs.Indices.{index, at_r, at_re, at_rey, at_rfy, at_rlfy, at_rltfmy, at_rltfy, at_rltmy, at_rlty, at_rly, at_rrrfy, at_rrrlfy, at_rt, at_rtemy, at_rtey, at_rtfy, at_rtmy, at_rty, at_ry}
-use Rattle.named_equations.specs.Instances.{is_index, is_one_of, is_value_at}
-use Rattle.named_equations.specs.Positions.{count_of, positions}
-use Rattle.row_book.specs.Kinds.{tidied}
 
 -- each subscript takes one of its values
 pub record AreValues (d : Data) (s : List ℕ) (i : Index) : Type 0 where

@@ -1,30 +1,7 @@
 -- What is found of rows that are looked at one after another.
-use Rattle.std.proofs.Common.{◌≡◌, ℕ, ◌+◌, ◌-◌, ◌*◌, ◌<◌, ◌≤◌, Bool, true, false, ◌&&◌, ◌||◌, nat_eq, get_or, List, [], ◌∷◌, ◌++◌, map, length, length-append, refl, ap, ap₂, sym, ◌∙◌, subst, arith, inl, inr}
+use Rattle.row_book.proofs.Common.{◌≡◌, ℕ, ◌+◌, ◌-◌, ◌*◌, ◌<◌, ◌≤◌, Bool, true, false, ◌&&◌, ◌||◌, nat_eq, get_or, List, [], ◌∷◌, ◌++◌, map, length, length-append, refl, ap, ap₂, sym, ◌∙◌, subst, arith, inl, inr, flat_map-append, get_or-append, replicate, cases_lt, get_or_at, get_or-replicate, length-replicate, map-append, Contains-append_cases, Contains-append_left, Contains-append_right, list_any-append, map-range_with_len_more, sum_by-append, Data, Index, Row, RowName, Var, indices, instances, instances_of, name_at, stands_at, subscripts_of, RowContents, contents_of, has_kind, entry_variables, AreRowsOf, CanBeMade, HasStopped, entries_in, entry_count, entry_limit, row_fits, AreHeld, KeepsRows, held_variables, HeldRows, AreSameVariables, AreSortedVariables, AreTallied, Marks, MarksMore, TalliesMore, found_variables, marked, names_to, rows_before, table_room, BookFail, Tally}
 use Rattle.std.specs.List.{AllByRecursion, Contains, flat_map, list_all, list_any, range_with_len}
 use Rattle.std.specs.Prelude.{ℤ, filter, OnOk, Result, Ok, Err}
-use Rattle.std.proofs.lemmas.Grind.{flat_map-append}
-use Rattle.std.proofs.Math.ListN.{get_or-append, replicate}
-use Rattle.std.proofs.lemmas.Bool.{cases_lt}
-use Rattle.std.proofs.lemmas.List.{get_or_at, get_or-replicate, length-replicate, map-append}
-use Rattle.std.proofs.lemmas.List.Elements.{Contains-append_cases, Contains-append_left, Contains-append_right}
-use Rattle.std.proofs.lemmas.List.Folds.{list_any-append}
-use Rattle.std.proofs.lemmas.List.FromFn.{map-range_with_len_more}
-use Rattle.std.proofs.lemmas.List.Sums.{sum_by-append}
-use Rattle.model_sets.specs.Data.{Data}
-use Rattle.row_core.specs.declared.Index.{Index}
-use Rattle.row_core.specs.declared.Row.{Row}
-use Rattle.row_core.specs.declared.RowName.{RowName}
-use Rattle.row_core.specs.declared.Var.{Var}
-use Rattle.named_equations.specs.Instances.{indices, instances, instances_of, name_at, stands_at, subscripts_of}
-use Rattle.row_core.specs.Contents.{RowContents, contents_of}
-use Rattle.row_core.specs.Sources.{has_kind}
-use Rattle.row_core.specs.RowLists.{entry_variables}
-use Rattle.row_book.specs.Books.{AreRowsOf, CanBeMade, HasStopped, entries_in, entry_count, entry_limit, row_fits}
-use Rattle.row_book.specs.Held.{AreHeld, KeepsRows, held_variables}
-use Rattle.row_book.specs.declared.held_rows.HeldRows.{HeldRows}
-use Rattle.row_book.specs.Tallies.{AreSameVariables, AreSortedVariables, AreTallied, Marks, MarksMore, TalliesMore, found_variables, marked, names_to, rows_before, table_room}
-use Rattle.row_book.specs.declared.fail.BookFail.{BookFail}
-use Rattle.row_book.specs.declared.tally.Tally.{Tally}
 use Rattle.row_book.proofs.Lists.{flat_map-last, flat_map-middle}
 use Rattle.row_book.proofs.Ranges.{range-last, range-middle}
 use Rattle.row_book.proofs.RowsAddedLaws.{both_fit, both_lists, stops-earlier, stops-later}

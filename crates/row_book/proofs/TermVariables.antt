@@ -1,16 +1,5 @@
 -- The variables of an equation's terms exist, and those beside its own are defined by earlier equations, if at all: what that says, equation by equation.
-use Rattle.std.proofs.Common.{◌≡◌, ℕ, Bool, true, false, ◌||◌, ◌⊎◌, inl, inr, List, nat_eq, nat_lt, Some, ap, sym, ◌∙◌}
-use Rattle.std.specs.List.{AllByRecursion, list_all, list_any}
-use Rattle.model_sets.specs.Data.{Data}
-use Rattle.row_core.specs.declared.Index.{Index}
-use Rattle.row_core.specs.declared.RowName.{RowName}
-use Rattle.row_core.specs.declared.Var.{Var}
-use Rattle.row_core.specs.Amounts.{Amount}
-use Rattle.row_core.specs.EquationTerms.{each}
-use Rattle.named_equations.specs.Existence.{definers, exists, exists_at, kind_numbers, subscripts_of_kind}
-use Rattle.named_equations.specs.Instances.{name_at, stands_at, subscripts_of, variable_of}
-use Rattle.named_equations.specs.Variables.{trade}
-use Rattle.row_book.specs.EquationRows.{terms_at}
+use Rattle.row_book.proofs.Common.{◌≡◌, ℕ, Bool, true, false, ◌||◌, ◌⊎◌, inl, inr, List, nat_eq, nat_lt, Some, ap, sym, ◌∙◌, AllByRecursion, list_all, list_any, Data, Index, RowName, Var, Amount, each, definers, exists, exists_at, kind_numbers, subscripts_of_kind, name_at, stands_at, subscripts_of, variable_of, trade, terms_at}
 use Rattle.row_book.proofs.Lists.{AllByRecursion-map, AllByRecursion-weaker}
 use Rattle.row_book.proofs.Subscripts.{AreValues, exists-from_values}
 

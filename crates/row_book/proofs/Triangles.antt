@@ -1,35 +1,5 @@
 -- The rows of all instances are triangular.
-use Rattle.std.proofs.Common.{◌≡◌, ℕ, zero, suc, ◌<◌, ◌≤◌, true, false, cond, inl, inr, List, [], ◌∷◌, nat_le, Some, None, refl, ap, ap₂, sym, ◌∙◌, subst, arith, le-leb, leb-true}
-use Rattle.std.specs.List.{AllByRecursion}
-use Rattle.std.specs.Prelude.{slice_get}
-use Rattle.std.specs.declared.cmp.Ordering.{Ordering}
-use Rattle.std.specs.declared.cmp.Ordering.TheVariants.{Less, Equal, Greater}
-use Rattle.std.specs.Ordering.{nat_cmp, ordering_reverse, ordering_then}
-use Rattle.std.proofs.lemmas.Bool.{cases_lt}
-use Rattle.std.proofs.lemmas.Cmp.{nat_cmp_total}
-use Rattle.exact_num.proofs.OrderLaws.{nat_cmp-less}
-use Rattle.exact_num.specs.Rational.{Rational, plus}
-use Rattle.model_sets.specs.Data.{Data}
-use Rattle.row_core.specs.declared.Index.{Index}
-use Rattle.row_core.specs.declared.Row.{Row}
-use Rattle.row_core.specs.declared.RowName.{RowName}
-use Rattle.row_core.specs.declared.Var.{Var}
-use Rattle.row_core.specs.EquationTerms.{right_of, terms_of}
-use Rattle.row_core.specs.Numbers.{variables_of}
-use Rattle.row_core.specs.Order.{index_cmp, row_name_cmp, var_cmp}
-use Rattle.row_core.specs.Terms.{gathered}
-use Rattle.row_core.specs.Written.{written_entries, written_right}
-use Rattle.row_core.proofs.Orders.{var_cmp_total}
-use Rattle.named_equations.specs.Existence.{exists}
-use Rattle.named_equations.specs.Instances.{instances, is_index, name_at, subscripts_of, variable_of}
-use Rattle.named_equations.specs.RowMeaning.{IsNamedRow}
-use Rattle.named_equations.specs.Variables.{trade}
-use Rattle.named_equations.proofs.InstanceOrder.{Sorted-instances, less_then}
-use Rattle.row_core.proofs.Members.{Contains-from_Has, Has, Has-from_Contains}
-use Rattle.row_core.specs.RowLists.{entry_variables}
-use Rattle.row_book.specs.Books.{AreRowsOf}
-use Rattle.row_book.specs.Definitions.{AreTriangular, Defines, IsAt}
-use Rattle.row_book.specs.EquationRows.{terms_at}
+use Rattle.row_book.proofs.Common.{◌≡◌, ℕ, zero, suc, ◌<◌, ◌≤◌, true, false, cond, inl, inr, List, [], ◌∷◌, nat_le, Some, None, refl, ap, ap₂, sym, ◌∙◌, subst, arith, le-leb, leb-true, AllByRecursion, slice_get, Ordering, Less, Equal, Greater, nat_cmp, ordering_reverse, ordering_then, cases_lt, nat_cmp_total, nat_cmp-less, Rational, plus, Data, Index, Row, RowName, Var, right_of, terms_of, variables_of, index_cmp, row_name_cmp, var_cmp, gathered, written_entries, written_right, var_cmp_total, exists, instances, is_index, name_at, subscripts_of, variable_of, IsNamedRow, trade, Sorted-instances, less_then, Contains-from_Has, Has, Has-from_Contains, entry_variables, AreRowsOf, AreTriangular, Defines, IsAt, terms_at}
 use Rattle.row_book.proofs.AllTerms.{has-terms}
 use Rattle.row_book.proofs.Definers.{chosen-some, defined-trade, definer-before, definer-equation, exchange-instance, is-exchange, is-found, same-definer, swapped}
 use Rattle.row_book.proofs.EntryVariables.{OfVariables, entries-from_terms}

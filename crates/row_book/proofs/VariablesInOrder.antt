@@ -1,22 +1,7 @@
 -- The variables of rows, sorted and without those that repeat, ascend strictly and are the same variables.
-use Rattle.std.proofs.Common.{◌≡◌, ℕ, ◌++◌, length, take, true, List, [], ◌∷◌, Bool, ◌&&◌, refl, ap, sym, ◌∙◌, subst}
-use Rattle.std.specs.Cmp.{IsEquivalence}
-use Rattle.std.specs.declared.cmp.Ordering.{Ordering}
-use Rattle.std.specs.declared.cmp.Ordering.TheVariants.{Less, Equal, Greater}
+use Rattle.row_book.proofs.Common.{◌≡◌, ℕ, ◌++◌, length, take, true, List, [], ◌∷◌, Bool, ◌&&◌, refl, ap, sym, ◌∙◌, subst, IsEquivalence, Ordering, Less, Equal, Greater, IsPermutation, IsSorted, IsStrictlySortedBy, eq_by_cmp, is_eq, is_lt, Contains-dedup, Contains-from_dedup, IsStrictlySortedBy-dedup, Contains-permutation, IsPermutation-sym, IsPermutation-trans, length_permutation, eq_by_cmp_equiv, Row, Var, ascends, before_first, var_cmp, var_cmp_exact, var_cmp_total, AreVariablesOf, entry_variables, AreSameVariables, AreSortedVariables}
 use Rattle.std.specs.List.{AllByRecursion, Contains, dedup}
-use Rattle.std.specs.List.Sorted.{IsPermutation, IsSorted, IsStrictlySortedBy}
-use Rattle.std.specs.Ordering.{eq_by_cmp, is_eq, is_lt}
-use Rattle.std.proofs.lemmas.List.Kept.{Contains-dedup, Contains-from_dedup, IsStrictlySortedBy-dedup}
-use Rattle.std.proofs.lemmas.List.Sorted.{Contains-permutation, IsPermutation-sym, IsPermutation-trans, length_permutation}
 use Rattle.std.proofs.Math.Seq.{take-append_seam}
-use Rattle.std.proofs.lemmas.Cmp.{eq_by_cmp_equiv}
-use Rattle.row_core.specs.declared.Row.{Row}
-use Rattle.row_core.specs.declared.Var.{Var}
-use Rattle.row_core.specs.Numbers.{ascends, before_first}
-use Rattle.row_core.specs.Order.{var_cmp}
-use Rattle.row_core.proofs.Orders.{var_cmp_exact, var_cmp_total}
-use Rattle.row_core.specs.RowLists.{AreVariablesOf, entry_variables}
-use Rattle.row_book.specs.Tallies.{AreSameVariables, AreSortedVariables}
 
 first_passes : (v : Var) (vs : List Var) → AllByRecursion (λ w. var_cmp v w ≡ Less) vs → before_first var_cmp v vs ≡ true
 first_passes v [] first = refl

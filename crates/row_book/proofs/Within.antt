@@ -1,24 +1,6 @@
 -- The names of instances, and the variables that exist, have the positions of members as their subscripts.
-use Rattle.std.proofs.Common.{◌≡◌, ℕ, ◌<◌, Bool, true, ◌&&◌, List, [], ◌∷◌, ◌++◌, nat_eq, nat_lt, refl, ap, sym, ◌∙◌, subst, arith, ltb-true}
-use Rattle.std.specs.List.{AllByRecursion, list_all}
-use Rattle.std.specs.Prelude.{if◌then◌else◌}
-use Rattle.std.proofs.lemmas.Bool.{and_parts}
-use Rattle.model_sets.specs.Data.{Data}
-use Rattle.row_core.specs.declared.Index.{Index}
-use Rattle.row_core.specs.declared.Row.{Row}
-use Rattle.row_core.specs.declared.RowName.{RowName}
-use Rattle.row_core.specs.declared.Var.{Var}
-use Rattle.row_core.specs.Equations.{IsEquation}
+use Rattle.row_book.proofs.Common.{◌≡◌, ℕ, ◌<◌, Bool, true, ◌&&◌, List, [], ◌∷◌, ◌++◌, nat_eq, nat_lt, refl, ap, sym, ◌∙◌, subst, arith, ltb-true, AllByRecursion, list_all, if◌then◌else◌, and_parts, Data, Index, Row, RowName, Var, IsEquation, exists, kind_numbers, subscripts_of_kind, equation_numbers, instances, is_one_of, subscripts_of, Contains-from_Has, Has, Has-from_Contains, EachFrom, at_number, BookFail, Width, TooManyEntries, Memory, Place, AreVariablesOf, entry_variables, names_of, AreRowsOf, HasNameWithin, HasStopped, IsWithinSets, NamesRowWithin}
 use Rattle.row_core.specs.NameTexts.{IsWithin, RowNameIsWithin}
-use Rattle.named_equations.specs.Existence.{exists, kind_numbers, subscripts_of_kind}
-use Rattle.named_equations.specs.Instances.{equation_numbers, instances, is_one_of, subscripts_of}
-use Rattle.row_core.proofs.Members.{Contains-from_Has, Has, Has-from_Contains}
-use Rattle.named_equations.proofs.TermMeaning.{EachFrom, at_number}
-use Rattle.row_book.specs.declared.fail.BookFail.{BookFail}
-use Rattle.row_book.specs.declared.fail.BookFail.TheVariants.{Width, TooManyEntries, Memory}
-use Rattle.row_core.specs.declared.place.Place.{Place}
-use Rattle.row_core.specs.RowLists.{AreVariablesOf, entry_variables, names_of}
-use Rattle.row_book.specs.Books.{AreRowsOf, HasNameWithin, HasStopped, IsWithinSets, NamesRowWithin}
 use Rattle.row_book.proofs.Definers.{exists-kind, exists-within}
 use Rattle.row_book.proofs.Instances.{IsInstance, all-instances}
 use Rattle.row_book.proofs.Lists.{all-from, all-has}

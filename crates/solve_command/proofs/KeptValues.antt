@@ -1,25 +1,16 @@
 -- Multipliers without those that are 0 have the same value for each row.
-use Rattle.std.proofs.Common.{◌≡◌, Bool, true, false, List, [], ◌∷◌, map, None, Some, refl, sym, ap, ap₂, ◌∙◌, subst, pos, if◌then◌else◌, arith}
-use Rattle.std.specs.Prelude.{not, unsigned_abs}
+use Rattle.solve_command.proofs.Common.{◌≡◌, Bool, true, false, List, [], ◌∷◌, map, None, Some, refl, sym, ap, ap₂, ◌∙◌, subst, pos, if◌then◌else◌, arith, not, unsigned_abs, gcd_of, Rational, pair, whole, value_of, Frac, RowName, ascends, is_zero, keys_of, or_zero, value_in, valued, nonzero}
 use Rattle.std.specs.Ordering.{is_eq, is_lt, ordering_reverse}
 use Rattle.std.specs.declared.cmp.Ordering.{Ordering}
 use Rattle.std.specs.declared.cmp.Ordering.TheVariants.{Less, Equal, Greater}
 use Rattle.std.proofs.lemmas.Int.{ints}
-use Rattle.exact_num.specs.Gcd.{gcd_of}
-use Rattle.exact_num.specs.Rational.{Rational, pair, whole}
-use Rattle.exact_num.specs.Value.{value_of}
-use Rattle.exact_num.specs.declared.fraction.Frac.{Frac}
 use Rattle.exact_num.proofs.GcdLaws.{zero-gcd_of}
 use Rattle.exact_num.proofs.Integers.{pos-unsigned_abs}
-use Rattle.row_core.specs.declared.RowName.{RowName}
 use Rattle.row_core.specs.LookUps.{value_at}
-use Rattle.row_core.specs.Numbers.{ascends, is_zero, keys_of}
 use Rattle.row_core.specs.Order.{row_name_cmp}
-use Rattle.row_core.specs.Plans.{or_zero, value_in, valued}
 use Rattle.row_core.proofs.AscendingLaws.{Less-from_test, ascends-skip, ascends-tail, both_passed}
 use Rattle.row_core.proofs.DivisionLaws.{is_zero-fact}
 use Rattle.row_core.proofs.Orders.{row_name_cmp_exact, row_name_cmp_total}
-use Rattle.plan_files.specs.Records.{nonzero}
 
 -- a fraction of which the numerator is 0 is 0
 zero-value : (f : Frac) → is_zero f.num ≡ true → value_of f ≡ whole (pos 0)

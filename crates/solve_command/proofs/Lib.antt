@@ -1,3 +1,4 @@
+pub mod Common
 mod KeptValues
 mod LineExamples
 mod PricePlaces

@@ -1,11 +1,8 @@
 -- The one line of `solve` computed on examples, and on near misses.
-use Rattle.std.proofs.Common.{◌≡◌, pos, negsuc, [], false, refl}
-use Rattle.std.specs.Prelude.{codes}
+use Rattle.solve_command.proofs.Common.{◌≡◌, pos, negsuc, [], false, refl, codes, gcd_of, gcd_within, lowest, minus, pair, plus, whole}
 use Rattle.std.specs.Fmt.{digits}
 use Rattle.exact_num.specs.Formed.{difference_formed, sum_formed}
-use Rattle.exact_num.specs.Gcd.{gcd_of, gcd_within}
 use Rattle.exact_num.specs.Range.{all_fit, in_range}
-use Rattle.exact_num.specs.Rational.{lowest, minus, pair, plus, whole}
 use Rattle.scaled_decimals.specs.PrintedPlaces.{millionths, millionths_text}
 use Rattle.solve_command.specs.LineTexts.{infeasible_line, is_in_millionths, solved_line, unbounded_line, up_text}
 

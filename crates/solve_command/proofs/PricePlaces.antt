@@ -1,20 +1,10 @@
 -- The place of a price is that of a row of the sets, so its name can be written.
-use Rattle.std.proofs.Common.{◌≡◌, true, List}
-use Rattle.exact_num.specs.Rational.{Rational}
-use Rattle.model_sets.specs.Members.{SetLists}
-use Rattle.row_core.specs.declared.Row.{Row}
-use Rattle.row_core.specs.declared.RowName.{RowName}
-use Rattle.row_core.specs.declared.Var.{Var}
-use Rattle.row_core.specs.declared.place.Place.{Place}
+use Rattle.solve_command.proofs.Common.{◌≡◌, true, List, Rational, SetLists, Row, RowName, Var, Place, Certified, balances, is_balance, price_step, price_steps, IsListedBook, Shown}
 use Rattle.row_book.proofs.Lists.{AllByRecursion-filter, AllByRecursion-map, AllByRecursion-weaker}
-use Rattle.certified_answers.specs.declared.answers.Certified.{Certified}
 use Rattle.certified_answers.specs.declared.answers.Certified.TheVariants as found
-use Rattle.result_tables.specs.Prices.{balances, is_balance, price_step, price_steps}
-use Rattle.command_answers.specs.CheckedPlans.{IsListedBook}
 use Rattle.command_answers.specs.PlacesWithin.{IsRowOfSets, PlaceIsWithin}
 use Rattle.command_answers.proofs.ListedBooks.{rows-named}
 use Rattle.command_answers.proofs.KeptPlaces.{AreStepsKept, wide-kept}
-use Rattle.solve_command.specs.declared.solve.Shown.{Shown}
 use Rattle.solve_command.specs.SolveOutcomes.{HasPriceWideAt}
 
 module _ (sets : SetLists) (rows : List Row) (vars : List Var) (listed : IsListedBook sets rows vars) where

@@ -1,24 +1,14 @@
 -- The multipliers of an optimum promise each price of its report.
-use Rattle.std.proofs.Common.{◌≡◌, ℕ, ℤ, pos, List, ap, subst}
-use Rattle.std.specs.Prelude.{Contains}
-use Rattle.exact_num.specs.Rational.{Rational}
-use Rattle.model_sets.specs.Data.{Data}
+use Rattle.solve_command.proofs.Common.{◌≡◌, ℕ, ℤ, pos, List, ap, subst, Contains, Rational, Data, Row, RowName, Var, all_variables, instances, balances, is_balance, named_price, prices, IsNearOptimum}
 use Rattle.row_core.specs.declared.Index.{Index}
-use Rattle.row_core.specs.declared.Row.{Row}
-use Rattle.row_core.specs.declared.RowName.{RowName}
-use Rattle.row_core.specs.declared.Var.{Var}
 use Rattle.row_core.specs.Values.{IsOver}
-use Rattle.named_equations.specs.Existence.{all_variables}
-use Rattle.named_equations.specs.Instances.{instances}
 use Rattle.row_core.proofs.Members.{Contains-from_Has, Has-from_Contains, map_parts}
 use Rattle.row_book.specs.Books.{AreRowsOf}
 use Rattle.certificate_checker.specs.Certificates.{AreMultipliersOver, Proves, bound_of}
 use Rattle.certificate_checker.specs.Costs.{model_cost}
 use Rattle.param_tables.proofs.AscendingLaws.{contains_from_filter}
 use Rattle.plan_quantities.specs.Prices.{IsPromised, balance_at, price_of}
-use Rattle.result_tables.specs.Prices.{balances, is_balance, named_price, prices}
 use Rattle.solve_command.specs.Promises.{ArePromised}
-use Rattle.command_answers.specs.SolvedPlans.{IsNearOptimum}
 
 -- the law on one price
 abbrev pub PriceLaw : Type 0

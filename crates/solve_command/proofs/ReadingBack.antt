@@ -1,31 +1,13 @@
 -- What was written of an end is read as what was found.
-use Rattle.std.proofs.Common.{◌≡◌, ℕ, List, [], map, refl, sym, ap, ◌∙◌, subst}
-use Rattle.std.specs.Prelude.{Contains}
-use Rattle.exact_num.specs.declared.fraction.Frac.{Frac}
-use Rattle.model_sets.specs.Data.{Data}
-use Rattle.model_sets.specs.Members.{AreSets, SetLists}
-use Rattle.row_core.specs.declared.Row.{Row}
-use Rattle.row_core.specs.declared.RowName.{RowName}
-use Rattle.row_core.specs.declared.Var.{Var}
-use Rattle.row_core.specs.Numbers.{keys_of}
-use Rattle.row_core.specs.Plans.{valued}
-use Rattle.named_equations.specs.Existence.{all_variables}
-use Rattle.named_equations.specs.Instances.{instances}
+use Rattle.solve_command.proofs.Common.{◌≡◌, ℕ, List, [], map, refl, sym, ap, ◌∙◌, subst, Contains, Frac, Data, AreSets, SetLists, Row, RowName, Var, keys_of, valued, all_variables, instances, nonzero, descent_file, optimum_file, refutation_file, AreNamedIn, IsBookOf, IsListedBook, vars-are, Shown, ReadsBack, TellsOptimum, TellsRefutation, WhereProof}
 use Rattle.named_equations.proofs.InstanceOrder.{instances-ascend, variables-ascend}
 use Rattle.row_book.proofs.Within.{names-of_rows}
 use Rattle.plan_files.specs.Files.{records_of}
 use Rattle.plan_files.specs.Listed.{name_of_row}
-use Rattle.plan_files.specs.Records.{nonzero}
 use Rattle.plan_files.proofs.ToldLaws.{keys_valued}
 use Rattle.proof_files.specs.declared.proof.Proof.TheVariants.{Optimum, Refutation, Descent}
-use Rattle.proof_files.specs.ProofRecords.{descent_file, optimum_file, refutation_file}
 use Rattle.proof_files.specs.Proofs.{IsProof, KeysAreNames, NamesAreListed}
-use Rattle.certified_answers.specs.Answers.{AreNamedIn}
-use Rattle.command_answers.specs.CheckedPlans.{IsBookOf, IsListedBook}
-use Rattle.command_answers.proofs.CheckedRows.{vars-are}
-use Rattle.solve_command.specs.declared.solve.Shown.{Shown}
 use Rattle.solve_command.specs.declared.solve.Shown.TheVariants as shows
-use Rattle.solve_command.specs.ReadBack.{ReadsBack, TellsOptimum, TellsRefutation, WhereProof}
 use Rattle.solve_command.proofs.KeptValues.{same-values}
 
 -- what the laws of written proofs say

@@ -1,22 +1,8 @@
 -- What the rounded method finds of a book of rows is due over the named equations.
-use Rattle.std.proofs.Common.{ℕ, inl, inr, List}
+use Rattle.solve_command.proofs.Common.{ℕ, inl, inr, List, value_of, Data, SetLists, Row, Var, Certified, IsBookOf, Status, optimum_file, refutation_file, Wanted, IsFoundBy, HasFractions, ReadsBack, TellsOptimum, TellsRefutation, IsFound, IsFoundInfeasibleShown, are, near, refuted}
 use Rattle.std.specs.Prelude.{◌≡◌, ◌⊎◌}
-use Rattle.exact_num.specs.Value.{value_of}
-use Rattle.model_sets.specs.Data.{Data}
-use Rattle.model_sets.specs.Members.{SetLists}
-use Rattle.row_core.specs.declared.Row.{Row}
-use Rattle.row_core.specs.declared.Var.{Var}
-use Rattle.certified_answers.specs.declared.answers.Certified.{Certified}
 use Rattle.certified_answers.specs.declared.answers.Certified.TheVariants as exact
-use Rattle.command_answers.specs.CheckedPlans.{IsBookOf}
-use Rattle.command_answers.specs.declared.status.Status.{Status}
-use Rattle.proof_files.specs.ProofRecords.{optimum_file, refutation_file}
-use Rattle.solve_command.specs.declared.solve.Wanted.{Wanted}
-use Rattle.command_answers.specs.BookMethods.{IsFoundBy}
-use Rattle.solve_command.specs.ReadBack.{HasFractions, ReadsBack, TellsOptimum, TellsRefutation}
 use Rattle.solve_command.specs.Rounding.{TellsFound}
-use Rattle.solve_command.specs.Solve.{IsFound, IsFoundInfeasibleShown}
-use Rattle.command_answers.proofs.SolvedRows.{are, near, refuted}
 use Rattle.solve_command.proofs.ReadingBack.{where-proof}
 
 module _ (places : ℕ) (d : Data) (rows : List Row) (vars : List Var) (book : IsBookOf places d rows vars) (sets : SetLists) (same : sets ≡ d.sets) (wanted : Wanted) (rounded : ℕ) (status : Status) (text : List ℕ) where

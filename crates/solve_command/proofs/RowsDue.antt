@@ -1,14 +1,5 @@
 -- What is due of rows: that their linear program is too large, or what is due of the method.
-use Rattle.std.proofs.Common.{ℕ, List, ◌⊎◌, inl, inr}
-use Rattle.model_sets.specs.Data.{Data}
-use Rattle.named_equations.specs.Existence.{all_variables}
-use Rattle.row_core.specs.declared.Row.{Row}
-use Rattle.command_answers.specs.Limits.{PassesLimits}
-use Rattle.command_answers.specs.declared.status.Status.{Status}
-use Rattle.command_words.specs.declared.command.SolveMethod.{SolveMethod}
-use Rattle.command_words.specs.declared.command.SolveMethod.TheVariants.{Exact, Rounded}
-use Rattle.solve_command.specs.declared.solve.Wanted.{Wanted}
-use Rattle.solve_command.specs.Solve.{DueBy, DueForMethod, DueForRows, Finds}
+use Rattle.solve_command.proofs.Common.{ℕ, List, ◌⊎◌, inl, inr, Data, all_variables, Row, PassesLimits, Status, SolveMethod, Exact, Rounded, Wanted, DueBy, DueForMethod, DueForRows, Finds}
 
 module _ (places : ℕ) (d : Data) (rows : List Row) (wanted : Wanted) (rounded : ℕ) (status : Status) (text : List ℕ) where
   -- what guesses find is due by the rounded method

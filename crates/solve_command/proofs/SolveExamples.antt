@@ -1,14 +1,7 @@
 -- What is due of solving, on examples and near misses.
-use Rattle.std.proofs.Common.{◌≡◌, ℕ, pos, [], ◌∷◌, refl, arith}
-use Rattle.model_sets.specs.Data.{Data}
+use Rattle.solve_command.proofs.Common.{◌≡◌, ℕ, pos, [], ◌∷◌, refl, arith, Data, HasNoPlan, IsPivotDue, Report, IsWithinLimits, ComesToEnd, HasNoLeastCost, NoneIsFeasible}
 use Rattle.named_equations.specs.Variables.{new_capacity, rate_of_activity, trade}
-use Rattle.exact_solver.specs.MethodEnds.{HasNoPlan, IsPivotDue}
 use Rattle.row_problem.specs.Sizes.{column_count}
-use Rattle.solve_command.specs.declared.solve.Shown.TheVariants.{Report}
-use Rattle.command_answers.specs.Limits.{IsWithinLimits}
-use Rattle.solve_command.specs.Solve.{ComesToEnd}
-use Rattle.command_answers.specs.SolvedPlans.{HasNoLeastCost}
-use Rattle.command_answers.specs.CheckedPlans.{NoneIsFeasible}
 
 -- ---- sizes
 

@@ -1,45 +1,13 @@
 -- What is due for a solution of a book of rows, and for a stop of the method, over the named equations.
-use Rattle.std.proofs.Common.{◌≡◌, ◌==◌, ℕ, Bool, true, false, inl, inr, Some, None, List, refl, sym, ap, ◌∙◌, subst, if◌then◌else◌}
-use Rattle.std.specs.Prelude.{is_none}
-use Rattle.exact_num.specs.Rational.{Rational}
-use Rattle.exact_num.specs.Steps.{first_wide}
-use Rattle.exact_num.specs.Value.{value_of}
-use Rattle.model_sets.specs.Data.{Data}
-use Rattle.model_sets.specs.Members.{SetLists}
-use Rattle.row_core.specs.declared.Row.{Row}
-use Rattle.row_core.specs.declared.RowName.{RowName}
-use Rattle.row_core.specs.declared.Var.{Var}
-use Rattle.row_core.specs.declared.place.Place.{Place}
-use Rattle.result_tables.specs.Prices.{price_steps}
-use Rattle.named_equations.specs.Existence.{all_variables}
-use Rattle.exact_solver.specs.MethodEnds.{HasNoBound, HasNoPlan, HasOptimum, IsPivotDue, IsStopOf, IsWide, MethodEnd, end_seen}
-use Rattle.written_method.specs.Eliminated.{elimination_steps}
-use Rattle.command_answers.specs.BookMethods.{grid_end, method_end}
-use Rattle.command_answers.specs.Definers.{definers}
-use Rattle.command_answers.specs.declared.status.Status.TheVariants.{Uncertified}
-use Rattle.command_words.specs.declared.command.SolveMethod.{SolveMethod}
-use Rattle.command_words.specs.declared.command.SolveMethod.TheVariants.{Exact, Rounded}
+use Rattle.solve_command.proofs.Common.{◌≡◌, ◌==◌, ℕ, Bool, true, false, inl, inr, Some, None, List, refl, sym, ap, ◌∙◌, subst, if◌then◌else◌, is_none, Rational, first_wide, value_of, Data, SetLists, Row, RowName, Var, Place, price_steps, all_variables, HasNoBound, HasNoPlan, HasOptimum, IsPivotDue, IsStopOf, IsWide, MethodEnd, end_seen, elimination_steps, grid_end, method_end, definers, Uncertified, SolveMethod, Exact, Rounded, IsComplete, IsNamed, IsProved, Certified, descent_file, optimum_file, refutation_file, Shown, Report, Summary, Wanted, Status, IsBookOf, uncertified_line, ComesToEnd, DueBy, DueForEnd, DueForMethod, PricesFit, priced, second_end, IsToldSecond, TellsExactly, HasFractions, ReadsBack, TellsDescent, TellsOptimum, TellsRefutation, are, near, optimum, refuted, unbounded}
 use Rattle.command_answers.proofs.BookLists.{end-of-elimination}
 use Rattle.certified_answers.specs.Worth.{plan_cost}
-use Rattle.certified_answers.specs.Answers.{IsComplete, IsNamed, IsProved}
-use Rattle.certified_answers.specs.declared.answers.Certified.{Certified}
 use Rattle.certified_answers.specs.declared.answers.Certified.TheVariants as found
 use Rattle.certified_answers.specs.declared.answers.NoAnswer.{NoAnswer}
 use Rattle.certified_answers.specs.declared.answers.NoAnswer.TheVariants as stops
-use Rattle.proof_files.specs.ProofRecords.{descent_file, optimum_file, refutation_file}
-use Rattle.solve_command.specs.declared.solve.Shown.{Shown}
-use Rattle.solve_command.specs.declared.solve.Shown.TheVariants.{Report, Summary}
-use Rattle.solve_command.specs.declared.solve.Wanted.{Wanted}
-use Rattle.command_answers.specs.declared.status.Status.{Status}
 use Rattle.simplex_core.specs.declared.stops.Stop.TheVariants.{Width}
-use Rattle.command_answers.specs.CheckedPlans.{IsBookOf}
-use Rattle.command_answers.specs.Lines.{uncertified_line}
-use Rattle.solve_command.specs.Solve.{ComesToEnd, DueBy, DueForEnd, DueForMethod, PricesFit, priced, second_end}
-use Rattle.solve_command.specs.Second.{IsToldSecond, TellsExactly}
-use Rattle.solve_command.specs.ReadBack.{HasFractions, ReadsBack, TellsDescent, TellsOptimum, TellsRefutation}
 use Rattle.solve_command.specs.Shown.{HasPrices}
 use Rattle.command_answers.specs.ToldStops.{TellsStop}
-use Rattle.command_answers.proofs.SolvedRows.{are, near, optimum, refuted, unbounded}
 use Rattle.solve_command.proofs.ReadingBack.{where-proof}
 
 -- a number that is formed for a price of what has prices doesn't fit, though all do

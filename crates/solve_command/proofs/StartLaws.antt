@@ -1,15 +1,8 @@
 -- What is due of a file of values to start from, by what it tells and what was read of it.
-use Rattle.std.proofs.Common.{ℕ, List, subst}
+use Rattle.solve_command.proofs.Common.{ℕ, List, subst, Data, Row, Status, NoStart, Start, Told, Breaks, Lacks, Gives, IsAnswer, is_passed, Wanted, DueForRows}
 use Rattle.std.specs.List.{count_by}
-use Rattle.model_sets.specs.Data.{Data}
-use Rattle.row_core.specs.declared.Row.{Row}
-use Rattle.command_answers.specs.declared.status.Status.{Status}
 use Rattle.result_tables.specs.declared.attempts.Begun.TheVariants.{FromValues, WithoutStart}
-use Rattle.solver_answers.specs.declared.answer.Answer.TheVariants.{NoStart, Start}
 use Rattle.solver_answers.specs.declared.start.StartValues.{StartValues}
-use Rattle.solver_answers.specs.Told.{Told, Breaks, Lacks, Gives, IsAnswer, is_passed}
-use Rattle.solve_command.specs.declared.solve.Wanted.{Wanted}
-use Rattle.solve_command.specs.Solve.{DueForRows}
 use Rattle.solve_command.specs.Starts.{DueFrom, begun_from}
 
 module _ (places : ℕ) (d : Data) (rows : List Row) (wanted : Wanted) (rounded : ℕ) (status : Status) (text : List ℕ) where

@@ -1,18 +1,5 @@
 -- What a call that looks for the span of a capacity asks for, and the directions that it finds.
-use Rattle.std.proofs.Common.{◌<◌, ◌≤◌, List, Option, Some, None, arith}
-use Rattle.std.specs.Prelude.{IfSome}
-use Rattle.std.specs.List.{AllByRecursion}
-use Rattle.exact_num.specs.Rational.{Rational}
-use Rattle.exact_num.specs.declared.fraction.Frac.{Frac}
-use Rattle.model_sets.specs.Members.{SetLists}
-use Rattle.row_core.specs.declared.Row.{Row}
-use Rattle.row_core.specs.declared.Var.{Var}
-use Rattle.row_book.specs.Books.{HasNameWithin}
-use Rattle.row_book.proofs.Lists.{AllByRecursion-weaker}
-use Rattle.command_answers.specs.CheckedPlans.{IsListedBook}
-use Rattle.command_answers.specs.PlacesWithin.{IsVariableOfSets}
-use Rattle.command_answers.proofs.ListedBooks.{rows-named}
-use Rattle.command_answers.proofs.BookPlaces.{plan-named}
+use Rattle.span_command.proofs.Common.{◌<◌, ◌≤◌, List, Option, Some, None, arith, IfSome, AllByRecursion, Rational, Frac, SetLists, Row, Var, HasNameWithin, AllByRecursion-weaker, IsListedBook, IsVariableOfSets, rows-named, plan-named}
 use Rattle.row_core.specs.declared.cost_limit.TheConstants.{SPAN}
 use Rattle.span_finder.specs.Spans.{IsHighEnd}
 

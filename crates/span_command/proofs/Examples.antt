@@ -1,23 +1,12 @@
 -- Texts and lines, computed.
-use Rattle.std.proofs.Common.{◌≡◌, ℕ, List, pos, negsuc, [], codes, refl, arith}
-use Rattle.std.specs.Prelude.{◌<ℤ◌, false}
+use Rattle.span_command.proofs.Common.{◌≡◌, ℕ, List, pos, negsuc, [], codes, refl, arith, ◌<ℤ◌, false, Rational, lowest, pair, whole, Data, no_members, Place, Trial, Width, span_name, Var, IsNearHighEnd, IsNearLowEnd, built, bounded_text, head_text, limited_line, limited_place, rising_text, rounded_text}
 use Rattle.std.proofs.lemmas.Int.{ints}
 use Rattle.exact_num.specs.Gcd.{gcd_of, gcd_within}
-use Rattle.exact_num.specs.Rational.{Rational, lowest, pair, whole}
-use Rattle.model_sets.specs.Data.{Data}
-use Rattle.model_sets.specs.Members.{no_members}
 use Rattle.scaled_decimals.specs.PrintedFraction.{fraction_text}
 use Rattle.scaled_decimals.specs.PrintedPlaces.{millionths, millionths_text}
 use Rattle.std.specs.Fmt.{digits}
 use Rattle.std.specs.Str.{bytes_eq}
-use Rattle.row_core.specs.declared.place.Place.{Place}
-use Rattle.simplex_core.specs.declared.stops.Stop.TheVariants.{Trial, Width}
 use Rattle.simplex_core.specs.declared.stops.TrialStop.TheVariants as trials
-use Rattle.row_core.specs.CostLimits.{span_name}
-use Rattle.row_core.specs.declared.Var.{Var}
-use Rattle.span_command.specs.NearBest.{IsNearHighEnd, IsNearLowEnd}
-use Rattle.span_command.specs.Span.{built}
-use Rattle.span_command.specs.SpanTexts.{bounded_text, head_text, limited_line, limited_place, rising_text, rounded_text}
 
 -- ---- texts
 

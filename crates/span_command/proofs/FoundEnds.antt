@@ -1,21 +1,7 @@
 -- What the rounded method finds of a book of rows, and ends near its bound, are due over the named equations.
-use Rattle.std.proofs.Common.{◌≡◌, ℕ, List, inl, inr}
-use Rattle.exact_num.specs.Value.{value_of}
+use Rattle.span_command.proofs.Common.{◌≡◌, ℕ, List, inl, inr, value_of, Data, SetLists, Row, Var, Certified, IsBookOf, Status, IsFoundBy, are, near, refuted, slack_limit, Wanted, TellsFound, DueForFound}
 use Rattle.exact_num.proofs.ValueLaws.{value_of-IsLowest}
-use Rattle.model_sets.specs.Data.{Data}
-use Rattle.model_sets.specs.Members.{SetLists}
-use Rattle.row_core.specs.declared.Row.{Row}
-use Rattle.row_core.specs.declared.Var.{Var}
-use Rattle.certified_answers.specs.declared.answers.Certified.{Certified}
 use Rattle.certified_answers.specs.declared.answers.Certified.TheVariants as found
-use Rattle.command_answers.specs.CheckedPlans.{IsBookOf}
-use Rattle.command_answers.specs.declared.status.Status.{Status}
-use Rattle.command_answers.specs.BookMethods.{IsFoundBy}
-use Rattle.command_answers.proofs.SolvedRows.{are, near, refuted}
-use Rattle.span_finder.specs.Slacks.{slack_limit}
-use Rattle.span_command.specs.declared.wanted.Wanted.{Wanted}
-use Rattle.span_command.specs.Outcomes.{TellsFound}
-use Rattle.span_command.specs.Span.{DueForFound}
 use Rattle.span_command.proofs.NearRows.{near-high-end, near-low-end}
 
 module _ (places : ℕ) (d : Data) (rows : List Row) (vars : List Var) (book : IsBookOf places d rows vars) (sets : SetLists) (same : sets ≡ d.sets) (var : Var) (wanted : Wanted) (rounded : ℕ) (status : Status) (text : List ℕ) where

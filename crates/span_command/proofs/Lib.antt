@@ -1,3 +1,4 @@
+pub mod Common
 mod SpanPlaces
 mod NearRows
 mod SpannedEnds

@@ -1,16 +1,6 @@
 -- What is proved of plans of a book's rows near the best holds of plans of the named equations.
-use Rattle.std.proofs.Common.{◌≡◌, ℕ, ℤ, List, ◌∙◌}
-use Rattle.exact_num.specs.Rational.{IsLowest, Rational}
-use Rattle.model_sets.specs.Data.{Data}
-use Rattle.row_core.specs.declared.Row.{Row}
-use Rattle.row_core.specs.declared.Var.{Var}
-use Rattle.row_core.specs.Order.{var_cmp}
-use Rattle.row_core.specs.Plans.{value_in}
-use Rattle.command_answers.specs.CheckedPlans.{IsBookOf}
-use Rattle.command_answers.proofs.CheckedRows.{costs-same, feasible-from_rows, rows-from_feasible, vars-are}
+use Rattle.span_command.proofs.Common.{◌≡◌, ℕ, ℤ, List, ◌∙◌, IsLowest, Rational, Data, Row, Var, var_cmp, value_in, IsBookOf, costs-same, feasible-from_rows, rows-from_feasible, vars-are, HaveAtLeast, HaveAtMost, IsEndless, IsNearBest, IsNearPlan, AreNearBest, HasNoHighEnd, IsHighEnd, IsLowEnd, IsNearHighEnd, IsNearLowEnd, NearBest}
 use Rattle.span_finder.specs.RoundedSpans.{LieWithin}
-use Rattle.span_finder.specs.Spans.{HaveAtLeast, HaveAtMost, IsEndless, IsNearBest, IsNearPlan}
-use Rattle.span_command.specs.NearBest.{AreNearBest, HasNoHighEnd, IsHighEnd, IsLowEnd, IsNearHighEnd, IsNearLowEnd, NearBest}
 
 module _ (places : ℕ) (d : Data) (rows : List Row) (vars : List Var) (book : IsBookOf places d rows vars) (limit : Rational) where
   near-from_rows : (q : ℕ) (x : Var → ℤ) → IsNearBest rows vars limit q x → NearBest places d limit q x

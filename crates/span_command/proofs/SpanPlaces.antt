@@ -1,35 +1,16 @@
 -- The place at which a span stops is that of the row that limits the cost, or of a row or a variable of the sets, so its name can be written.
-use Rattle.std.proofs.Common.{◌≡◌, ℕ, List, [], ◌∷◌, ◌++◌, map, Option, Some, None, refl, inl, inr, sym, ap, ap₂, ◌∙◌, subst, arith}
-use Rattle.std.specs.Prelude.{⊤}
-use Rattle.std.specs.List.{AllByRecursion}
-use Rattle.exact_num.specs.Rational.{Rational}
-use Rattle.exact_num.specs.Steps.{first_wide}
-use Rattle.model_sets.specs.Members.{SetLists}
-use Rattle.row_core.specs.declared.Row.{Row}
+use Rattle.span_command.proofs.Common.{◌≡◌, ℕ, List, [], ◌∷◌, ◌++◌, map, Option, Some, None, refl, inl, inr, sym, ap, ap₂, ◌∙◌, subst, arith, ⊤, AllByRecursion, Rational, first_wide, SetLists, Row, Var, Place, span_name, IsWithinSets, AllByRecursion-append, AllByRecursion-weaker, elimination_steps, HasOptimum, IsWide, MethodEnd, solved_end, IsListedBook, definer, definers, IsRowOfSets, IsVariableOfSets, StopKeeps, define-within, vars-named, IsStopped, SpanEnd, Stops, both_trials, greatest_end, least_end, spanned, unless_stopped}
 use Rattle.row_core.specs.declared.RowName.{RowName}
-use Rattle.row_core.specs.declared.Var.{Var}
-use Rattle.row_core.specs.declared.place.Place.{Place}
 use Rattle.row_core.specs.Contents.{RowContents, contents_of}
-use Rattle.row_core.specs.CostLimits.{span_name}
 use Rattle.named_equations.specs.Instances.{variable_of}
-use Rattle.row_book.specs.Books.{IsWithinSets}
 use Rattle.row_book.specs.Kept.{IsBook}
 use Rattle.row_book.proofs.KindLaws.{nothing-defined}
-use Rattle.row_book.proofs.Lists.{AllByRecursion-append, AllByRecursion-weaker}
-use Rattle.written_method.specs.Eliminated.{elimination_steps}
 use Rattle.certified_answers.specs.declared.costs.Cost.TheVariants.{One}
 use Rattle.certified_answers.specs.declared.costs.Goal.{Goal}
 use Rattle.certified_answers.specs.declared.costs.Goal.TheVariants.{Least, Greatest}
-use Rattle.exact_solver.specs.MethodEnds.{HasOptimum, IsWide, MethodEnd, solved_end}
 use Rattle.simplex_core.specs.declared.stops.Stop.{Stop}
-use Rattle.command_answers.specs.CheckedPlans.{IsListedBook}
-use Rattle.command_answers.specs.Definers.{definer, definers}
-use Rattle.command_answers.specs.PlacesWithin.{IsRowOfSets, IsVariableOfSets, StopKeeps}
-use Rattle.command_answers.proofs.BookPlaces.{define-within}
 use Rattle.command_answers.proofs.KeptPlaces.{DefinesKept, EndIsKept, elimination-kept, solved-end-kept, wide-kept}
-use Rattle.command_answers.proofs.ListedBooks.{vars-named}
 use Rattle.span_finder.specs.LimitRows.{HasLimitRow}
-use Rattle.span_finder.specs.SpanEnds.{IsStopped, SpanEnd, Stops, both_trials, greatest_end, least_end, spanned, unless_stopped}
 use Rattle.span_finder.specs.declared.found.SpanFail.TheVariants.{Stopped}
 use Rattle.span_command.specs.LimitedPlaces.{NameIsLimited, StopIsLimited}
 

@@ -1,53 +1,21 @@
 -- What is due for a solution of a book, for a span near its cost, and for each stop, over the named equations.
-use Rattle.std.proofs.Common.{◌≡◌, ◌++◌, ℕ, List, Option, Some, None, inl, inr, refl, sym, ap, ◌∙◌, codes}
+use Rattle.span_command.proofs.Common.{◌≡◌, ◌++◌, ℕ, List, Option, Some, None, inl, inr, refl, sym, ap, ◌∙◌, codes, Rational, value_of, Frac, true, Data, SetLists, Row, Var, var_cmp, value_in, HasNoBound, HasNoPlan, HasOptimum, IsPivotDue, IsStopOf, IsWide, MethodEnd, end_seen, method_end, Certified, end_line, unbounded_text, Budget, Width, IsBookOf, Status, SolveMethod, first_wide, Place, elimination_steps, vars-are, optimum, refuted, unbounded, definers, EndsSo, slack_formed, slack_limit, IsNearPlan, IsLowEnd, IsToldSpan, IsToldStop, TellsNear, TellsSolution, span_lines, Wanted, DueBy, DueForEnd, DueForMethod, HasLeastCost, bounded_text, chosen_table, head_text, limited_line, rising_text}
 use Rattle.exact_num.specs.Range.{all_fit}
-use Rattle.exact_num.specs.Rational.{Rational}
-use Rattle.exact_num.specs.Value.{value_of}
-use Rattle.exact_num.specs.declared.fraction.Frac.{Frac}
-use Rattle.std.specs.Prelude.{true}
-use Rattle.model_sets.specs.Data.{Data}
-use Rattle.model_sets.specs.Members.{SetLists}
-use Rattle.row_core.specs.declared.Row.{Row}
-use Rattle.row_core.specs.declared.Var.{Var}
-use Rattle.row_core.specs.Order.{var_cmp}
-use Rattle.row_core.specs.Plans.{value_in}
 use Rattle.named_equations.specs.Existence.{all_variables}
-use Rattle.exact_solver.specs.MethodEnds.{HasNoBound, HasNoPlan, HasOptimum, IsPivotDue, IsStopOf, IsWide, MethodEnd, end_seen}
-use Rattle.command_answers.specs.BookMethods.{method_end}
 use Rattle.certified_answers.specs.Worth.{plan_cost}
 use Rattle.certified_answers.specs.Answers.{IsComplete, IsNamed, IsProved}
-use Rattle.certified_answers.specs.declared.answers.Certified.{Certified}
 use Rattle.certified_answers.specs.declared.answers.Certified.TheVariants as found
 use Rattle.certified_answers.specs.declared.answers.NoAnswer.{NoAnswer}
 use Rattle.certified_answers.specs.declared.answers.NoAnswer.TheVariants as stops
 use Rattle.row_core.specs.declared.place.Place.TheVariants.{SumGap}
 use Rattle.result_tables.specs.Lines.{amount_line}
-use Rattle.result_tables.specs.Reports.{end_line, unbounded_text}
-use Rattle.simplex_core.specs.declared.stops.Stop.TheVariants.{Budget, Width}
-use Rattle.command_answers.specs.CheckedPlans.{IsBookOf}
 use Rattle.command_answers.specs.Lines.{uncertified_line}
-use Rattle.command_answers.specs.declared.status.Status.{Status}
 use Rattle.command_answers.specs.declared.status.Status.TheVariants.{Done, Uncertified}
 use Rattle.command_answers.proofs.BookLists.{end-of-elimination}
-use Rattle.command_words.specs.declared.command.SolveMethod.{SolveMethod}
 use Rattle.command_words.specs.declared.command.SolveMethod.TheVariants.{Exact, Rounded}
-use Rattle.exact_num.specs.Steps.{first_wide}
-use Rattle.row_core.specs.declared.place.Place.{Place}
-use Rattle.written_method.specs.Eliminated.{elimination_steps}
-use Rattle.command_answers.proofs.CheckedRows.{vars-are}
 use Rattle.command_answers.specs.ToldStops.{TellsStop}
-use Rattle.command_answers.proofs.SolvedRows.{optimum, refuted, unbounded}
-use Rattle.command_answers.specs.Definers.{definers}
 use Rattle.span_finder.specs.SpanEnds as trials
-use Rattle.span_finder.specs.SpanEnds.{EndsSo}
-use Rattle.span_finder.specs.Slacks.{slack_formed, slack_limit}
 use Rattle.span_finder.specs.Spans as over_rows
-use Rattle.span_finder.specs.Spans.{IsNearPlan}
-use Rattle.span_command.specs.NearBest.{IsLowEnd}
-use Rattle.span_command.specs.Outcomes.{IsToldSpan, IsToldStop, TellsNear, TellsSolution, span_lines}
-use Rattle.span_command.specs.declared.wanted.Wanted.{Wanted}
-use Rattle.span_command.specs.Span.{DueBy, DueForEnd, DueForMethod, HasLeastCost}
-use Rattle.span_command.specs.SpanTexts.{bounded_text, chosen_table, head_text, limited_line, rising_text}
 use Rattle.span_command.proofs.NearRows.{high-end, low-end, no-high-end}
 
 module _ (places : ℕ) (d : Data) (rows : List Row) (vars : List Var) (book : IsBookOf places d rows vars) (sets : SetLists) (same : sets ≡ d.sets) (var : Var) (wanted : Wanted) (rounded : ℕ) (status : Status) (text : List ℕ) where

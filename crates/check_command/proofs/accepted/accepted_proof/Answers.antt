@@ -1,15 +1,4 @@
-use Rattle.std.proofs.Common.{◌≡◌, inl, List, map, sym, ◌∙◌, ap, subst}
-use Rattle.std.specs.List.{AllByRecursion}
-use Rattle.row_core.specs.declared.RowName.{RowName}
-use Rattle.row_core.specs.declared.Var.{Var}
-use Rattle.named_equations.specs.Existence.{all_variables}
-use Rattle.named_equations.specs.Instances.{instances}
-use Rattle.plan_files.specs.Answers.{IsFailOf}
-use Rattle.plan_files.specs.Files.{records_of}
-use Rattle.plan_files.specs.Listed.{IsListedVariable, name_of_row}
-use Rattle.proof_files.specs.Proofs.{IsProof, IsProofFault}
-use Rattle.command_answers.specs.PlanFaultLines.{proof_fault_line}
-use Rattle.command_answers.proofs.PlanCosts.{all-of}
+use Rattle.check_command.proofs.Common.{◌≡◌, inl, List, map, sym, ◌∙◌, ap, subst, AllByRecursion, RowName, Var, all_variables, instances, IsFailOf, records_of, IsListedVariable, name_of_row, IsProof, IsProofFault, proof_fault_line, all-of}
 use Rattle.check_command.proofs.CheckFiles.{names-are}
 use Rattle.check_command.proofs.KeptProofs.{kept_or_said, plan_within}
 use Rattle.check_command.proofs.ProofLaws.{proof-fault-within}

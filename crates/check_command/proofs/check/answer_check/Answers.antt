@@ -1,7 +1,4 @@
-use Rattle.std.proofs.Common.{inl, inr, sym, subst}
-use Rattle.std.proofs.lemmas.Result.{IfOk-weaker}
-use Rattle.command_answers.specs.CheckedPlans.{IsListedBook}
-use Rattle.command_answers.specs.MadeBooks.{TellsMade}
+use Rattle.check_command.proofs.Common.{inl, inr, sym, subst, IfOk-weaker, IsListedBook, TellsMade}
 use Rattle.check_command.proofs.check.answer_check.Goals as goal
 
 pub answer_plan_file-requires : goal.answer_plan_file-requires

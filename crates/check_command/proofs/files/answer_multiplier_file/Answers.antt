@@ -1,11 +1,4 @@
-use Rattle.std.proofs.Common.{◌≡◌, inl, inr, Some, refl, sym, ◌∙◌, ap, subst, option_map, map, IfOk}
-use Rattle.std.proofs.lemmas.Result.{IfOk-weaker}
-use Rattle.named_equations.specs.Instances.{instances}
-use Rattle.plan_files.specs.Answers.{AreMultipliers, IsFailOf, IsMultiplierFault}
-use Rattle.plan_files.specs.Files.{records_of}
-use Rattle.plan_files.specs.Listed.{name_of_row}
-use Rattle.check_command.specs.Check.{DueForMultiplierFile}
-use Rattle.command_answers.specs.PlanFaultLines.{multiplier_fault_line}
+use Rattle.check_command.proofs.Common.{◌≡◌, inl, inr, Some, refl, sym, ◌∙◌, ap, subst, option_map, map, IfOk, IfOk-weaker, instances, AreMultipliers, IsFailOf, IsMultiplierFault, records_of, name_of_row, DueForMultiplierFile, multiplier_fault_line}
 use Rattle.check_command.proofs.CheckFiles.{names-are}
 use Rattle.check_command.proofs.files.answer_multiplier_file.Goals as goal
 

@@ -1,6 +1,4 @@
-use Rattle.std.proofs.Common.{Some, subst, sym}
-use Rattle.proof_files.specs.declared.proof.Proof.TheVariants.{Optimum}
-use Rattle.command_answers.specs.ShownProofs.{HasWorth}
+use Rattle.check_command.proofs.Common.{Some, subst, sym, Optimum, HasWorth}
 use Rattle.check_command.proofs.DueOfPlans.{due-from_outcome, worth-from_outcome}
 use Rattle.check_command.proofs.files.answer_optimum.Goals as goal
 

@@ -1,5 +1,4 @@
-use Rattle.std.proofs.Common.{subst}
-use Rattle.check_command.specs.CheckOutcomes.{OutcomeIsWithin}
+use Rattle.check_command.proofs.Common.{subst, OutcomeIsWithin}
 use Rattle.check_command.proofs.ProofLaws.{said-from_within}
 use Rattle.check_command.proofs.files.answer_outcome.Goals as goal
 

@@ -1,13 +1,5 @@
-use Rattle.std.proofs.Common.{◌≡◌, inl, inr, sym, ◌∙◌, ap, subst}
-use Rattle.std.proofs.lemmas.Result.{IfOk-weaker}
-use Rattle.std.specs.List.{AllByRecursion}
-use Rattle.named_equations.specs.Existence.{all_variables}
-use Rattle.plan_files.specs.Answers.{IsFailOf, IsPlan, IsPlanFault}
-use Rattle.plan_files.specs.Files.{records_of}
-use Rattle.plan_files.specs.Listed.{IsListedVariable}
-use Rattle.command_answers.specs.PlanFaultLines.{plan_fault_line}
+use Rattle.check_command.proofs.Common.{◌≡◌, inl, inr, sym, ◌∙◌, ap, subst, IfOk-weaker, AllByRecursion, all_variables, IsFailOf, IsPlan, IsPlanFault, records_of, IsListedVariable, plan_fault_line, all-of}
 use Rattle.check_command.proofs.CheckFiles.{fault-within}
-use Rattle.command_answers.proofs.PlanCosts.{all-of}
 use Rattle.check_command.proofs.files.answer_plan_file.Goals as goal
 
 pub refuse_plan-requires : goal.refuse_plan-requires

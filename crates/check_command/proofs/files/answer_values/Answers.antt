@@ -1,5 +1,4 @@
-use Rattle.std.proofs.Common.{option_map}
-use Rattle.std.proofs.lemmas.Result.{IfOk-weaker}
+use Rattle.check_command.proofs.Common.{option_map, IfOk-weaker}
 use Rattle.check_command.proofs.DueOfPlans.{due-from_outcome}
 use Rattle.check_command.proofs.files.answer_values.Goals as goal
 

@@ -1,6 +1,4 @@
-use Rattle.std.proofs.Common.{◌≡◌, ◌++◌, sym, subst}
-use Rattle.std.specs.Prelude.{OnOk}
-use Rattle.check_command.specs.CheckLines.{rejection_text}
+use Rattle.check_command.proofs.Common.{◌≡◌, ◌++◌, sym, subst, OnOk, rejection_text}
 use Rattle.check_command.proofs.lines.push_rejection.Goals as goal
 
 pub returns-in-WrongMultiplier : goal.returns-in-WrongMultiplier

@@ -1,22 +1,5 @@
-use Rattle.std.proofs.Common.{Some, sym, subst}
-use Rattle.exact_num.specs.Value.{value_of}
-use Rattle.named_equations.specs.Existence.{all_variables}
-use Rattle.row_core.specs.Order.{row_name_cmp}
-use Rattle.row_core.specs.Plans.{value_in}
-use Rattle.certificate_checker.specs.declared.verdicts.Verdict.TheVariants.{Yes}
-use Rattle.certificate_checker.specs.Certificates.{BoundsAll}
-use Rattle.certificate_checker.specs.Conditions.{FailsFor, IsWideAt}
-use Rattle.certificate_checker.specs.Costs.{model_cost}
-use Rattle.certificate_checker.specs.MultiplierChecks.{bound_conditions, bound_value}
-use Rattle.certificate_checker.specs.Reasons.{reason_of}
-use Rattle.certificate_checker.specs.Sums.{HasVariablesOf}
-use Rattle.certificate_checker.specs.Verdicts.{IfYes, IsVerdict}
-use Rattle.check_command.specs.declared.outcome.Outcome.TheVariants.{Rejected, Wide}
-use Rattle.command_answers.specs.CheckedPlans.{IsBookOf, IsListedBook}
-use Rattle.check_command.specs.CheckOutcomes.{IsCheckedBound, IsCheckedPlan, IsOutcome}
+use Rattle.check_command.proofs.Common.{Some, sym, subst, value_of, all_variables, row_name_cmp, value_in, Yes, BoundsAll, FailsFor, IsWideAt, model_cost, bound_conditions, bound_value, reason_of, HasVariablesOf, IfYes, IsVerdict, Rejected, Wide, IsBookOf, IsListedBook, IsCheckedBound, IsCheckedPlan, IsOutcome, listed-as, rows-named, vars-named, book-of, vars-are}
 use Rattle.check_command.proofs.CheckNames.{bound-within, fails-named, wide-named}
-use Rattle.command_answers.proofs.ListedBooks.{listed-as, rows-named, vars-named}
-use Rattle.command_answers.proofs.CheckedRows.{book-of, vars-are}
 use Rattle.check_command.proofs.OutcomeLaws.{bound-fails, bound-wide, checked-bound}
 use Rattle.check_command.proofs.outcome.bound_outcome.Goals as goal
 

@@ -1,18 +1,5 @@
-use Rattle.std.proofs.Common.{Option, sym, subst, option_map, IfOk}
-use Rattle.exact_num.specs.Value.{value_of}
-use Rattle.row_core.specs.Order.{var_cmp}
-use Rattle.named_equations.specs.Existence.{all_variables}
-use Rattle.certificate_checker.specs.Conditions.{FailsFor, IsWideAt}
-use Rattle.certificate_checker.specs.Costs.{model_cost}
-use Rattle.certificate_checker.specs.Denominators.{AreOverSome}
-use Rattle.certificate_checker.specs.PlanChecks.{plan_conditions}
-use Rattle.certificate_checker.specs.Reasons.{reason_of}
-use Rattle.check_command.specs.declared.outcome.Outcome.TheVariants.{Accepted, Rejected, Wide}
-use Rattle.command_answers.specs.CheckedPlans.{IsBookOf, IsListedBook}
-use Rattle.check_command.specs.CheckOutcomes.{IsCheckedPlan, IsOutcome}
+use Rattle.check_command.proofs.Common.{Option, sym, subst, option_map, IfOk, value_of, var_cmp, all_variables, FailsFor, IsWideAt, model_cost, AreOverSome, plan_conditions, reason_of, Accepted, Rejected, Wide, IsBookOf, IsListedBook, IsCheckedPlan, IsOutcome, listed-as, rows-named, vars-named, book-of, vars-are}
 use Rattle.check_command.proofs.CheckNames.{fails-named, plan-within, wide-named}
-use Rattle.command_answers.proofs.ListedBooks.{listed-as, rows-named, vars-named}
-use Rattle.command_answers.proofs.CheckedRows.{book-of, vars-are}
 use Rattle.check_command.proofs.OutcomeLaws.{checked-plan, not-feasible, plan-fails, plan-passes, plan-wide}
 use Rattle.check_command.proofs.outcome.checked.Goals as goal
 

@@ -1,6 +1,4 @@
-use Rattle.std.proofs.Common.{refl, [], ◌∷◌}
-use Rattle.exact_num.specs.Value.{value_of}
-use Rattle.certificate_checker.specs.Gaps.{gap_condition}
+use Rattle.check_command.proofs.Common.{refl, [], ◌∷◌, value_of, gap_condition}
 use Rattle.check_command.proofs.CheckNames.{fails-named, gap-within, wide-named}
 use Rattle.check_command.proofs.OutcomeLaws.{all-pass, gap-fails, gap-wide}
 use Rattle.check_command.proofs.outcome.gap_outcome.Goals as goal

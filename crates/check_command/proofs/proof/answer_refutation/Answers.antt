@@ -1,5 +1,4 @@
-use Rattle.std.proofs.lemmas.Result.{IfOk-weaker}
-use Rattle.std.specs.Prelude.{codes}
+use Rattle.check_command.proofs.Common.{IfOk-weaker, codes}
 use Rattle.check_command.proofs.ProofLaws.{due-from_verdict}
 use Rattle.check_command.proofs.proof.answer_refutation.Goals as goal
 

@@ -1,20 +1,4 @@
-use Rattle.std.proofs.Common.{List, subst}
-use Rattle.exact_num.specs.Value.{value_of}
-use Rattle.row_core.specs.declared.Row.{Row}
-use Rattle.row_core.specs.Order.{var_cmp}
-use Rattle.row_core.specs.Plans.{value_in}
-use Rattle.certificate_checker.specs.declared.verdicts.Verdict.TheVariants.{No, Width}
-use Rattle.certificate_checker.specs.Conditions.{FailsFor, IsWideAt}
-use Rattle.certificate_checker.specs.Costs.{cost_value, model_cost}
-use Rattle.certificate_checker.specs.Denominators.{AreOverSome}
-use Rattle.certificate_checker.specs.PlanChecks.{direction_conditions, plan_conditions}
-use Rattle.certificate_checker.specs.Reasons.{reason_of}
-use Rattle.command_answers.specs.CheckedPlans.{IsBookOf, IsListedBook}
-use Rattle.command_answers.proofs.CheckedRows.{book-of}
-use Rattle.command_answers.proofs.ListedBooks.{listed-as, rows-named, vars-named}
-use Rattle.check_command.specs.CheckOutcomes.{IsCheckedPlan}
-use Rattle.check_command.specs.CheckProof.{IsEndless, descent_conditions}
-use Rattle.check_command.specs.ProofVerdicts.{IsJudged}
+use Rattle.check_command.proofs.Common.{List, subst, value_of, Row, var_cmp, value_in, No, Width, FailsFor, IsWideAt, cost_value, model_cost, AreOverSome, direction_conditions, plan_conditions, reason_of, IsBookOf, IsListedBook, book-of, listed-as, rows-named, vars-named, IsCheckedPlan, IsEndless, descent_conditions, IsJudged}
 use Rattle.check_command.proofs.OutcomeLaws.{checked-plan}
 use Rattle.check_command.proofs.ProofLaws.{descent-fails, descent-judged, descent-wide}
 use Rattle.check_command.proofs.ProofNames.{direction-sayable, plan-sayable, verdict-within}

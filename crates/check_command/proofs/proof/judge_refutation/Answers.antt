@@ -1,17 +1,5 @@
-use Rattle.std.proofs.Common.{List, Result, Ok, Err, sym, subst}
+use Rattle.check_command.proofs.Common.{List, Result, Ok, Err, sym, subst, IfOk-weaker, Row, Var, row_name_cmp, value_in, bound_value, infeasible_conditions, HasVariablesOf, IsBookOf, IsListedBook, NoneIsFeasible, book-of, listed-as, rows-named, vars-named, refutation_conditions, IsJudged}
 use Rattle.std.specs.Prelude.{IfOk}
-use Rattle.std.proofs.lemmas.Result.{IfOk-weaker}
-use Rattle.row_core.specs.declared.Row.{Row}
-use Rattle.row_core.specs.declared.Var.{Var}
-use Rattle.row_core.specs.Order.{row_name_cmp}
-use Rattle.row_core.specs.Plans.{value_in}
-use Rattle.certificate_checker.specs.MultiplierChecks.{bound_value, infeasible_conditions}
-use Rattle.certificate_checker.specs.Sums.{HasVariablesOf}
-use Rattle.command_answers.specs.CheckedPlans.{IsBookOf, IsListedBook, NoneIsFeasible}
-use Rattle.command_answers.proofs.CheckedRows.{book-of}
-use Rattle.command_answers.proofs.ListedBooks.{listed-as, rows-named, vars-named}
-use Rattle.check_command.specs.CheckProof.{refutation_conditions}
-use Rattle.check_command.specs.ProofVerdicts.{IsJudged}
 use Rattle.check_command.proofs.ProofLaws.{refutation-judged}
 use Rattle.check_command.proofs.ProofNames.{refutation-sayable, verdict-within}
 use Rattle.check_command.proofs.proof.judge_refutation.Goals as goal

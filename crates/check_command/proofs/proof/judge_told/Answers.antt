@@ -1,8 +1,5 @@
 -- What is due of each kind of proof is due of the one that was read.
-use Rattle.std.proofs.Common.{subst, sym}
-use Rattle.proof_files.specs.declared.proof.Proof.{Proof}
-use Rattle.command_answers.specs.ShownProofs.{HasWorth}
-use Rattle.check_command.specs.CheckProof.{DueForProofTold}
+use Rattle.check_command.proofs.Common.{subst, sym, Proof, HasWorth, DueForProofTold}
 use Rattle.check_command.proofs.proof.judge_told.Goals as goal
 
 pub returns-in_ok-answer-in-Optimum-clause-due : goal.returns-in_ok-answer-in-Optimum-clause-due

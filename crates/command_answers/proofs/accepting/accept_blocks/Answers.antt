@@ -1,5 +1,4 @@
-use Rattle.std.proofs.Common.{inr}
-use Rattle.std.proofs.lemmas.Result.{IfOk-weaker, MatchResult-weaker}
+use Rattle.command_answers.proofs.Common.{inr, IfOk-weaker, MatchResult-weaker}
 use Rattle.command_answers.proofs.accepting.accept_blocks.Goals as goal
 
 pub returns-in-Ok : goal.returns-in-Ok

@@ -1,7 +1,4 @@
-use Rattle.std.proofs.Common.{refl, sym, subst}
-use Rattle.mathprog_data.specs.BlocksView.{blocks_told}
-use Rattle.model_sets.specs.Members.{SetLists}
-use Rattle.param_tables.specs.BlockData.{set_lists}
+use Rattle.command_answers.proofs.Common.{refl, sym, subst, blocks_told, SetLists, set_lists}
 use Rattle.param_tables.specs.Told.{NamesCell, refusal_told}
 use Rattle.command_answers.proofs.accepting.accept_data.Goals as goal
 

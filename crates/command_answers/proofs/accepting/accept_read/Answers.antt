@@ -1,7 +1,4 @@
-use Rattle.std.proofs.Common.{inl, inr}
-use Rattle.std.proofs.lemmas.Result.{IfOk-weaker, MatchResult-at_err, MatchResult-at_ok, MatchResult-weaker}
-use Rattle.mathprog_data.specs.BlocksView.{blocks_told}
-use Rattle.mathprog_data.specs.Verdicts.{Says}
+use Rattle.command_answers.proofs.Common.{inl, inr, IfOk-weaker, MatchResult-at_err, MatchResult-at_ok, MatchResult-weaker, blocks_told, Says}
 use Rattle.command_answers.proofs.accepting.accept_read.Goals as goal
 
 pub accept_blocks-requires : goal.accept_blocks-requires

@@ -1,6 +1,5 @@
 -- One row after another.
-use Rattle.std.proofs.Common.{◌<◌, List, length, ◌∙◌, subst}
-use Rattle.row_core.specs.declared.Row.{Row}
+use Rattle.command_answers.proofs.Common.{◌<◌, List, length, ◌∙◌, subst, Row}
 use Rattle.command_answers.proofs.BookProblems.{definers-next}
 use Rattle.command_answers.proofs.methods.definers.Goals as goal
 

@@ -1,6 +1,5 @@
 -- The rows so far are gone through.
-use Rattle.std.proofs.Common.{◌≡◌, take}
-use Rattle.command_answers.specs.Definers.{definers}
+use Rattle.command_answers.proofs.Common.{◌≡◌, take, definers}
 use Rattle.command_answers.proofs.methods.definers.Given as goal
 
 abbrev pub invariant-loop-i : goal.invariant-loop-i

@@ -1,9 +1,5 @@
-use Rattle.std.proofs.Common.{◌≡◌, ◌∙◌, ◌++◌, ◌<◌, ℕ, List, [], length, take, get_or, ap, sym, arith}
+use Rattle.command_answers.proofs.Common.{◌≡◌, ◌∙◌, ◌++◌, ◌<◌, ℕ, List, [], length, take, get_or, ap, sym, arith, join_with_byte, members, subscript_sets, names_at}
 use Rattle.std.proofs.Math.Seq.{take-length}
-use Rattle.std.specs.List.{join_with_byte}
-use Rattle.model_sets.specs.Members.{members}
-use Rattle.model_sets.specs.Params.{subscript_sets}
-use Rattle.param_tables.specs.Positions.{names_at}
 use Rattle.command_answers.proofs.MemberNames.{one-more-name, length-names, name-there}
 use Rattle.command_answers.proofs.refusal_lines.push_members.Goals as goal
 

@@ -1,6 +1,4 @@
-use Rattle.std.proofs.Common.{◌≡◌, ◌++◌, take}
-use Rattle.std.specs.List.{join_with_byte}
-use Rattle.param_tables.specs.Positions.{names_at}
+use Rattle.command_answers.proofs.Common.{◌≡◌, ◌++◌, take, join_with_byte, names_at}
 use Rattle.command_answers.proofs.refusal_lines.push_members.Given as goal
 
 -- the names so far stand there

@@ -1,8 +1,6 @@
 -- Over the rows of the model with the limit, made anew or renewed.
-use Rattle.std.proofs.Common.{sym, subst}
-use Rattle.model_sets.specs.Members.{SetLists}
+use Rattle.curve_command.proofs.Common.{sym, subst, SetLists, IsMemberOf, limited}
 use Rattle.command_answers.proofs.MadeBooks.{made-book}
-use Rattle.curve_command.specs.KeptRows.{IsMemberOf, limited}
 use Rattle.curve_command.proofs.KeptBooks.{as-limited, renewed-made, same-made, same-stops}
 use Rattle.curve_command.proofs.LimitValues.{place-of}
 use Rattle.curve_command.proofs.books.limited_book.Goals as goal

@@ -1,6 +1,5 @@
 -- Both words are members.
-use Rattle.std.proofs.Common.{inr}
-use Rattle.std.proofs.lemmas.Result.{IfOk-weaker}
+use Rattle.curve_command.proofs.Common.{inr, IfOk-weaker}
 use Rattle.curve_command.proofs.curve.answer_curve.Goals as goal
 
 pub returns : goal.returns

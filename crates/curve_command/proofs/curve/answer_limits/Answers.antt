@@ -1,7 +1,5 @@
 -- The text of all trials, or the answer of the first that refuses.
-use Rattle.std.proofs.Common.{map, inl, inr}
-use Rattle.row_book.proofs.Lists.{AllByRecursion-weaker}
-use Rattle.curve_command.specs.Outcomes.{IsFoundOf, IsPrintable, found_seen}
+use Rattle.curve_command.proofs.Common.{map, inl, inr, AllByRecursion-weaker, IsFoundOf, IsPrintable, found_seen}
 use Rattle.curve_command.proofs.TrialLists.{trials-of}
 use Rattle.curve_command.proofs.curve.answer_limits.Goals as goal
 

@@ -1,7 +1,5 @@
 -- The point of the exact method, whose place can be named where it stops.
-use Rattle.std.proofs.Common.{◌≡◌, inl}
-use Rattle.command_answers.specs.Definers.{definers}
-use Rattle.emission_curve.specs.Ends.{point_end, point_seen}
+use Rattle.curve_command.proofs.Common.{◌≡◌, inl, definers, point_end, point_seen}
 use Rattle.curve_command.proofs.PointPlaces.{exact-within}
 use Rattle.curve_command.proofs.points.exact_point.Goals as goal
 

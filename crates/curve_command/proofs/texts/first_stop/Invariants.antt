@@ -1,7 +1,5 @@
 -- None of the trials so far stopped.
-use Rattle.std.proofs.Common.{◌≡◌, ◌+◌, drop, map}
-use Rattle.curve_command.specs.CurveTexts.{first_stop}
-use Rattle.curve_command.specs.Outcomes.{found_seen}
+use Rattle.curve_command.proofs.Common.{◌≡◌, ◌+◌, drop, map, first_stop, found_seen}
 use Rattle.curve_command.proofs.texts.first_stop.Given as goal
 
 abbrev pub invariant-loop-found : goal.invariant-loop-found

@@ -1,10 +1,5 @@
 -- Limit by limit.
-use Rattle.std.proofs.Common.{ℕ, List, ◌++◌, ◌+◌, drop, map, ap, ◌∙◌}
-use Rattle.std.specs.List.{flat_map}
-use Rattle.curve_command.specs.CurveTexts.{limit_line}
-use Rattle.curve_command.specs.Outcomes.{found_seen}
-use Rattle.curve_command.specs.declared.trials.Found.{Found}
-use Rattle.command_answers.proofs.ListLines.{lines-next}
+use Rattle.curve_command.proofs.Common.{ℕ, List, ◌++◌, ◌+◌, drop, map, ap, ◌∙◌, flat_map, limit_line, found_seen, Found, lines-next}
 use Rattle.curve_command.proofs.texts.push_limits.Goals as goal
 
 pub loop-found-preserved : goal.loop-found-preserved

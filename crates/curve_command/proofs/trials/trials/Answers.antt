@@ -1,15 +1,6 @@
 -- Limit by limit.
-use Rattle.std.proofs.Common.{◌≡◌, ◌+◌, ◌++◌, ◌∷◌, [], List, ℤ, pos, map, drop, get_or, refl, sym, ap, ◌∙◌, subst, append-nil}
-use Rattle.std.proofs.lemmas.List.{drop_all}
-use Rattle.std.specs.List.{AllByRecursion}
-use Rattle.command_words.specs.LimitLists.{IsLimit}
-use Rattle.row_book.proofs.Lists.{AllByRecursion-append}
-use Rattle.curve_command.specs.Curve.{limits_in}
-use Rattle.curve_command.specs.Outcomes.{IsFoundOf, TriedTells, found_seen}
-use Rattle.curve_command.specs.declared.trials.Found.{Found}
-use Rattle.curve_command.specs.declared.trials.Limit.{Limit}
+use Rattle.curve_command.proofs.Common.{◌≡◌, ◌+◌, ◌++◌, ◌∷◌, [], List, ℤ, pos, map, drop, get_or, refl, sym, ap, ◌∙◌, subst, append-nil, drop_all, AllByRecursion, IsLimit, AllByRecursion-append, limits_in, IsFoundOf, TriedTells, found_seen, Found, Limit, each-at}
 use Rattle.curve_command.proofs.LimitValues.{limit-fits}
-use Rattle.command_answers.proofs.ListLines.{each-at}
 use Rattle.curve_command.proofs.TrialLists.{limits-next, limits-split, trials-of}
 use Rattle.curve_command.proofs.trials.trials.Goals as goal
 

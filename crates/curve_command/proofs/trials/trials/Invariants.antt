@@ -1,10 +1,5 @@
 -- The limits so far have their trials, and the rows that are kept are those of one of them.
-use Rattle.std.proofs.Common.{◌≡◌, ◌++◌, drop, map}
-use Rattle.std.specs.Prelude.{IfSome}
-use Rattle.std.specs.List.{AllByRecursion}
-use Rattle.curve_command.specs.Curve.{limits_in}
-use Rattle.curve_command.specs.KeptRows.{IsBookAtSome}
-use Rattle.curve_command.specs.Outcomes.{IsFoundOf, found_seen}
+use Rattle.curve_command.proofs.Common.{◌≡◌, ◌++◌, drop, map, IfSome, AllByRecursion, limits_in, IsBookAtSome, IsFoundOf, found_seen}
 use Rattle.curve_command.proofs.trials.trials.Given as goal
 
 abbrev pub invariant-loop-most : goal.invariant-loop-most

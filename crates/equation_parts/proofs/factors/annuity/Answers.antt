@@ -1,10 +1,6 @@
 -- The annuity of the region's factors is that of its rate, over its unit.
-use Rattle.std.proofs.Common.{◌≡◌, ap, ◌∙◌}
+use Rattle.equation_parts.proofs.Common.{◌≡◌, ap, ◌∙◌, annuity, back_in_range, AreFactorsOf, places_of, rate_of, annuity_of}
 use Rattle.std.specs.Prelude.{pos}
-use Rattle.discount_factors.specs.Factors.{annuity}
-use Rattle.exact_num.proofs.RangeLaws.{back_in_range}
-use Rattle.named_equations.specs.RegionFactors.{AreFactorsOf, places_of}
-use Rattle.named_equations.specs.WrittenFactors.{rate_of, annuity_of}
 use Rattle.equation_parts.proofs.FactorLaws.{factors-of, factor-by_places}
 use Rattle.equation_parts.proofs.factors.annuity.Goals as goal
 

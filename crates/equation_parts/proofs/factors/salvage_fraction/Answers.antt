@@ -1,11 +1,6 @@
 -- The factors of the region reach over the life, and their rate is the region's.
-use Rattle.std.proofs.Common.{sym, ap, ap₂, ◌∙◌, subst}
+use Rattle.equation_parts.proofs.Common.{sym, ap, ap₂, ◌∙◌, subst, salvage_fraction, back_in_range, years_left, AreFactorsOf, places_of, rate_of, life_of, salvage_fraction_of}
 use Rattle.std.specs.Prelude.{◌≡◌, ◌<◌, ◌≤◌, pos}
-use Rattle.discount_factors.specs.Factors.{salvage_fraction}
-use Rattle.exact_num.proofs.RangeLaws.{back_in_range}
-use Rattle.named_equations.specs.Positions.{years_left}
-use Rattle.named_equations.specs.RegionFactors.{AreFactorsOf, places_of}
-use Rattle.named_equations.specs.WrittenFactors.{rate_of, life_of, salvage_fraction_of}
 use Rattle.equation_parts.proofs.FactorLaws.{factors-of, factor-by_places}
 use Rattle.equation_parts.proofs.YearLaws.{left-of_life}
 use Rattle.equation_parts.proofs.factors.salvage_fraction.Goals as goal

@@ -1,8 +1,5 @@
 -- The range of YearSplit begins above 0.
-use Rattle.std.proofs.Common.{ℤ, [], ◌∷◌, Option}
-use Rattle.model_sets.specs.Data.{value_at}
-use Rattle.model_sets.specs.declared.param_numbers.TheConstants.{YEAR_SPLIT}
-use Rattle.named_equations.specs.Parameters.{slice_name, year_name}
+use Rattle.equation_parts.proofs.Common.{ℤ, [], ◌∷◌, Option, value_at, YEAR_SPLIT, slice_name, year_name}
 use Rattle.equation_parts.proofs.Splits.{above_zero}
 use Rattle.equation_parts.proofs.parameters.year_split.Goals as goal
 

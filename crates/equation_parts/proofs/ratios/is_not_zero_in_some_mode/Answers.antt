@@ -1,8 +1,5 @@
 -- One mode after another.
-use Rattle.std.proofs.Common.{ℕ, ◌<◌, ◌≤◌, Bool, sym, ap, ◌∙◌, subst}
-use Rattle.model_sets.specs.Names.{mode}
-use Rattle.named_equations.specs.Positions.{count_of}
-use Rattle.named_equations.proofs.SomePosition.{any-begin, any-here, any-later, any-end}
+use Rattle.equation_parts.proofs.Common.{ℕ, ◌<◌, ◌≤◌, Bool, sym, ap, ◌∙◌, subst, mode, count_of, any-begin, any-here, any-later, any-end}
 use Rattle.equation_parts.proofs.ratios.is_not_zero_in_some_mode.Invariants.{is_there}
 use Rattle.equation_parts.proofs.ratios.is_not_zero_in_some_mode.Goals as goal
 

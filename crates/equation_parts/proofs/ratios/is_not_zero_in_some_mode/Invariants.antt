@@ -1,13 +1,7 @@
 -- Whether some mode does is decided by those from here on.
-use Rattle.std.proofs.Common.{◌≡◌, ℕ, Bool, [], ◌∷◌}
+use Rattle.equation_parts.proofs.Common.{◌≡◌, ℕ, Bool, [], ◌∷◌, Data, mode, count_of, modes, is_not_zero, any_from, names_at}
 use Rattle.std.specs.List.{list_any}
-use Rattle.model_sets.specs.Data.{Data}
-use Rattle.model_sets.specs.Names.{mode}
 use Rattle.named_equations.specs.Parameters.{value_of}
-use Rattle.named_equations.specs.Positions.{count_of, modes}
-use Rattle.named_equations.specs.Where.{is_not_zero}
-use Rattle.named_equations.proofs.SomePosition.{any_from}
-use Rattle.param_tables.specs.Positions.{names_at}
 use Rattle.equation_parts.proofs.ratios.is_not_zero_in_some_mode.Given as goal
 
 -- the ratio isn't 0 in mode m

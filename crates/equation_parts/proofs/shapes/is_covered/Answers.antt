@@ -1,7 +1,5 @@
 -- The left side is made of the terms.
-use Rattle.std.proofs.Common.{refl}
-use Rattle.row_core.proofs.AmountLaws.{added}
-use Rattle.named_equations.specs.TermShapes.{is_covered}
+use Rattle.equation_parts.proofs.Common.{refl, added, is_covered}
 use Rattle.equation_parts.proofs.shapes.is_covered.Goals as goal
 
 pub returns : goal.returns

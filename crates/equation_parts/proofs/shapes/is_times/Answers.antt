@@ -1,8 +1,5 @@
 -- The left side is made of the terms.
-use Rattle.std.proofs.Common.{refl, ap, ◌∙◌}
-use Rattle.row_core.specs.Calculated.{negative_of}
-use Rattle.row_core.proofs.AmountLaws.{added}
-use Rattle.named_equations.specs.TermShapes.{is_times}
+use Rattle.equation_parts.proofs.Common.{refl, ap, ◌∙◌, negative_of, added, is_times}
 use Rattle.equation_parts.proofs.shapes.is_times.Goals as goal
 
 pub returns : goal.returns

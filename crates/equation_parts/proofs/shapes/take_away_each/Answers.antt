@@ -1,8 +1,5 @@
 -- One position after another.
-use Rattle.std.proofs.Common.{ℕ, List, ◌+◌, refl, sym, ap, ap₂, ◌∙◌, get_or, drop}
-use Rattle.std.proofs.lemmas.List.{at_drop_all, at_drop_more}
-use Rattle.row_core.specs.Calculated.{Side, with_number, with_amounts}
-use Rattle.row_core.specs.EquationTerms.{each, less}
+use Rattle.equation_parts.proofs.Common.{ℕ, List, ◌+◌, refl, sym, ap, ap₂, ◌∙◌, get_or, drop, at_drop_all, at_drop_more, Side, with_number, with_amounts, each, less}
 use Rattle.equation_parts.proofs.shapes.take_away_each.Goals as goal
 
 pub loop-position-init : goal.loop-position-init

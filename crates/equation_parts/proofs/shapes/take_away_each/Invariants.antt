@@ -1,8 +1,6 @@
 -- The positions that are left make of the left side what all of them make of the first.
-use Rattle.std.proofs.Common.{◌≡◌, ℕ, drop}
+use Rattle.equation_parts.proofs.Common.{◌≡◌, ℕ, drop, with_amounts, each, less}
 use Rattle.row_core.specs.declared.Var.{Var}
-use Rattle.row_core.specs.Calculated.{with_amounts}
-use Rattle.row_core.specs.EquationTerms.{each, less}
 use Rattle.equation_parts.proofs.shapes.take_away_each.Given as goal
 
 abbrev pub invariant-loop-position : goal.invariant-loop-position

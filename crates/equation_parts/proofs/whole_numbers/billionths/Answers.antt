@@ -1,11 +1,5 @@
 -- The numerator times what the denominator lacks to a billion is the number of billionths.
-use Rattle.std.proofs.Common.{ℤ, pos, Option, ap, ◌∙◌, sym, subst, FitsSigned, to_z, of_z}
-use Rattle.std.specs.Int.{w128}
-use Rattle.std.specs.Prelude.{◌≤ℤ◌, unwrap_or}
-use Rattle.exact_num.proofs.RangeLaws.{FitsSigned-from_InRange}
-use Rattle.model_sets.specs.Data.{value_at}
-use Rattle.model_sets.specs.Params.{range_of}
-use Rattle.param_tables.specs.Positions.{names_at}
+use Rattle.equation_parts.proofs.Common.{ℤ, pos, Option, ap, ◌∙◌, sym, subst, FitsSigned, to_z, of_z, w128, ◌≤ℤ◌, unwrap_or, FitsSigned-from_InRange, value_at, range_of, names_at}
 use Rattle.equation_parts.proofs.Rates.{rate-back, rate-computed, rate-fits, rate-of_given}
 use Rattle.equation_parts.proofs.whole_numbers.billionths.Goals as goal
 

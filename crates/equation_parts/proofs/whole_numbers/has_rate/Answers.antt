@@ -1,9 +1,5 @@
 -- A rate is above 0 exactly where its numerator is.
-use Rattle.std.proofs.Common.{[], ◌∷◌}
-use Rattle.exact_num.specs.Value.{value_of}
-use Rattle.model_sets.specs.Data.{value_at}
-use Rattle.model_sets.specs.declared.param_numbers.TheConstants.{DISCOUNT_RATE}
-use Rattle.named_equations.specs.Parameters.{region_name}
+use Rattle.equation_parts.proofs.Common.{[], ◌∷◌, value_of, value_at, DISCOUNT_RATE, region_name}
 use Rattle.equation_parts.proofs.WholeNumbers.{rate-given}
 use Rattle.equation_parts.proofs.whole_numbers.has_rate.Goals as goal
 

@@ -1,11 +1,5 @@
 -- The numerator of a life is its number of years.
-use Rattle.std.proofs.Common.{ℤ, [], ◌∷◌, Option, ap, ◌∙◌, rules}
-use Rattle.std.specs.Prelude.{unsigned_abs}
-use Rattle.exact_num.specs.Value.{value_of}
-use Rattle.exact_num.proofs.RangeLaws.{back_in_range}
-use Rattle.model_sets.specs.Data.{value_at}
-use Rattle.model_sets.specs.declared.param_numbers.TheConstants.{OPERATIONAL_LIFE}
-use Rattle.named_equations.specs.Parameters.{region_name, technology_name}
+use Rattle.equation_parts.proofs.Common.{ℤ, [], ◌∷◌, Option, ap, ◌∙◌, rules, unsigned_abs, value_of, back_in_range, value_at, OPERATIONAL_LIFE, region_name, technology_name}
 use Rattle.equation_parts.proofs.WholeNumbers.{life-given}
 use Rattle.equation_parts.proofs.whole_numbers.operational_life.Goals as goal
 

@@ -1,6 +1,5 @@
 -- Fewer years are left than the life has.
-use Rattle.std.proofs.Common.{ap₂, ◌∙◌}
-use Rattle.std.specs.Prelude.{nat_lt}
+use Rattle.equation_parts.proofs.Common.{ap₂, ◌∙◌, nat_lt}
 use Rattle.equation_parts.proofs.YearLaws.{outlasts-coded}
 use Rattle.equation_parts.proofs.years.outlasts.Goals as goal
 

@@ -1,7 +1,6 @@
 -- The first year is at least 1.
-use Rattle.std.proofs.Common.{ap, ◌∙◌, sym, subst, rules}
+use Rattle.equation_parts.proofs.Common.{ap, ◌∙◌, sym, subst, rules, first_year}
 use Rattle.std.specs.Prelude.{◌≡◌, ◌≤◌}
-use Rattle.model_sets.specs.Members.{first_year}
 use Rattle.equation_parts.proofs.YearLaws.{first-from}
 use Rattle.equation_parts.proofs.years.years_in_all.Goals as goal
 

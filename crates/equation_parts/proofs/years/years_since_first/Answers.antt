@@ -1,8 +1,6 @@
 -- No year lies beyond the last.
-use Rattle.std.proofs.Common.{ap, ◌∙◌, arith}
+use Rattle.equation_parts.proofs.Common.{ap, ◌∙◌, arith, first_year, number_of_year}
 use Rattle.std.specs.Prelude.{◌≡◌}
-use Rattle.model_sets.specs.Members.{first_year}
-use Rattle.named_equations.specs.Positions.{number_of_year}
 use Rattle.equation_parts.proofs.YearLaws.{within-last}
 use Rattle.equation_parts.proofs.years.years_since_first.Goals as goal
 

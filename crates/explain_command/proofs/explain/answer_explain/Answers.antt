@@ -1,7 +1,4 @@
-use Rattle.std.proofs.Common.{inr}
-use Rattle.std.proofs.lemmas.Result.{IfOk-weaker}
-use Rattle.command_answers.proofs.MadeBooks.{program-due}
-use Rattle.explain_command.specs.Explain.{DueForRows}
+use Rattle.explain_command.proofs.Common.{inr, IfOk-weaker, program-due, DueForRows}
 use Rattle.explain_command.proofs.explain.answer_explain.Goals as goal
 
 pub answer_book-requires : goal.answer_book-requires

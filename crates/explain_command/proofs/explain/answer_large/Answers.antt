@@ -1,7 +1,5 @@
 -- What guesses find, or that it is too large.
-use Rattle.std.proofs.Common.{inl}
-use Rattle.command_answers.proofs.MadeBooks.{large-due}
-use Rattle.explain_command.specs.Explain.{DueForMethod, Finds}
+use Rattle.explain_command.proofs.Common.{inl, large-due, DueForMethod, Finds}
 use Rattle.explain_command.proofs.explain.answer_large.Goals as goal
 
 pub returns-in-Exact : goal.returns-in-Exact

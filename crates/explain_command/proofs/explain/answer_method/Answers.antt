@@ -1,6 +1,5 @@
 -- Where the elimination stops, so do the trials.
-use Rattle.std.proofs.lemmas.Result.{IfOk-weaker}
-use Rattle.simplex_core.specs.declared.stops.Stop.TheVariants.{Width}
+use Rattle.explain_command.proofs.Common.{IfOk-weaker, Width}
 use Rattle.explain_command.proofs.ExplainEnds.{due-from_stop, elimination-cause}
 use Rattle.explain_command.proofs.explain.answer_method.Goals as goal
 

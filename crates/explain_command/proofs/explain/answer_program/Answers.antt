@@ -1,7 +1,5 @@
 -- What was found, or a stop.
-use Rattle.std.proofs.lemmas.Result.{IfOk-weaker}
-use Rattle.command_answers.proofs.BookPlaces.{define-within}
-use Rattle.command_answers.proofs.ListedBooks.{vars-named}
+use Rattle.explain_command.proofs.Common.{IfOk-weaker, define-within, vars-named}
 use Rattle.explain_command.proofs.ExplainEnds.{due-from_found, due-from_stop}
 use Rattle.explain_command.proofs.TrialPlaces.{cause-named}
 use Rattle.explain_command.proofs.explain.answer_program.Goals as goal

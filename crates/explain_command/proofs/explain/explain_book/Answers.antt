@@ -1,7 +1,5 @@
 -- By one method or the other, of the lists of the book.
-use Rattle.std.specs.Prelude.{IfErr}
-use Rattle.conflict_sets.specs.RoundedStops.{StopsSome}
-use Rattle.command_answers.proofs.BookLists.{of-book}
+use Rattle.explain_command.proofs.Common.{IfErr, StopsSome, of-book}
 use Rattle.explain_command.proofs.ExplainEnds.{ExactTells, WorthTells, exact-tells, rounded-tells}
 use Rattle.explain_command.proofs.explain.explain_book.Goals as goal
 

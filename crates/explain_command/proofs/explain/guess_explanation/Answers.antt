@@ -1,7 +1,5 @@
 -- Of the lists of the book.
-use Rattle.std.specs.Prelude.{IfNone, IfOk, IfSome}
-use Rattle.conflict_sets.specs.Conflicts.{AdmitsSome, IsConflict}
-use Rattle.command_answers.proofs.BookLists.{of-book}
+use Rattle.explain_command.proofs.Common.{IfNone, IfOk, IfSome, AdmitsSome, IsConflict, of-book}
 use Rattle.explain_command.proofs.ExplainEnds.{guessed-tells}
 use Rattle.explain_command.proofs.explain.guess_explanation.Goals as goal
 

@@ -1,12 +1,5 @@
 -- Member by member.
-use Rattle.std.proofs.Common.{ℕ, List, ◌++◌, ◌+◌, drop, map, ap, ◌∙◌}
-use Rattle.std.specs.List.{flat_map}
-use Rattle.exact_num.specs.declared.fraction.Frac.{Frac}
-use Rattle.row_core.specs.declared.RowName.{RowName}
-use Rattle.row_core.specs.Plans.{valued}
-use Rattle.command_answers.specs.PlacesWithin.{IsRowOfSets}
-use Rattle.explain_command.specs.Texts.{member_line}
-use Rattle.command_answers.proofs.ListLines.{each-at, lines-next}
+use Rattle.explain_command.proofs.Common.{ℕ, List, ◌++◌, ◌+◌, drop, map, ap, ◌∙◌, flat_map, Frac, RowName, valued, IsRowOfSets, member_line, each-at, lines-next}
 use Rattle.explain_command.proofs.texts.push_members.Goals as goal
 
 pub push_member-requires : goal.push_member-requires

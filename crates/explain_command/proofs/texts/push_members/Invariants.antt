@@ -1,8 +1,5 @@
 -- With the lines of the members that are left, the lines so far are those of all members.
-use Rattle.std.proofs.Common.{◌≡◌, ◌++◌, drop, map}
-use Rattle.std.specs.List.{flat_map}
-use Rattle.row_core.specs.Plans.{valued}
-use Rattle.explain_command.specs.Texts.{member_line}
+use Rattle.explain_command.proofs.Common.{◌≡◌, ◌++◌, drop, map, flat_map, valued, member_line}
 use Rattle.explain_command.proofs.texts.push_members.Given as goal
 
 abbrev pub invariant-loop-name : goal.invariant-loop-name

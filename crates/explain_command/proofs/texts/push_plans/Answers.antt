@@ -1,15 +1,5 @@
 -- Plan by plan.
-use Rattle.std.proofs.Common.{◌<◌, ℕ, List, ◌++◌, ◌+◌, length, drop, map, ap, ap₂, ◌∙◌, append-nil}
-use Rattle.std.specs.List.{AllByRecursion}
-use Rattle.std.proofs.lemmas.List.{drop_all}
-use Rattle.exact_num.specs.Rational.{Rational}
-use Rattle.exact_num.specs.declared.fraction.Frac.{Frac}
-use Rattle.row_core.specs.declared.RowName.{RowName}
-use Rattle.row_core.specs.declared.Var.{Var}
-use Rattle.row_core.specs.Plans.{valued}
-use Rattle.command_answers.specs.PlacesWithin.{IsRowOfSets, IsVariableOfSets}
-use Rattle.command_answers.proofs.ListLines.{each-at}
-use Rattle.explain_command.specs.Texts.{all_plan_lines, plan_lines}
+use Rattle.explain_command.proofs.Common.{◌<◌, ℕ, List, ◌++◌, ◌+◌, length, drop, map, ap, ap₂, ◌∙◌, append-nil, AllByRecursion, drop_all, Rational, Frac, RowName, Var, valued, IsRowOfSets, IsVariableOfSets, each-at, all_plan_lines, plan_lines}
 use Rattle.explain_command.proofs.TextLaws.{no-plans, plans-next}
 use Rattle.explain_command.proofs.texts.push_plans.Goals as goal
 

@@ -1,7 +1,5 @@
 -- With the plans of the members that are left, what is written so far is that of all members.
-use Rattle.std.proofs.Common.{◌≡◌, ◌++◌, drop, map}
-use Rattle.row_core.specs.Plans.{valued}
-use Rattle.explain_command.specs.Texts.{all_plan_lines}
+use Rattle.explain_command.proofs.Common.{◌≡◌, ◌++◌, drop, map, valued, all_plan_lines}
 use Rattle.explain_command.proofs.texts.push_plans.Given as goal
 
 abbrev pub invariant-loop-i : goal.invariant-loop-i

@@ -1,9 +1,5 @@
 -- The last of the numbers is that of TAC3.
-use Rattle.std.proofs.Common.{◌≡◌, refl, sym, subst, rules}
-use Rattle.row_core.specs.declared.equation_numbers.TheConstants.{TAC3}
-use Rattle.named_equations.specs.Instances.{stands_at}
-use Rattle.named_equations.specs.Parameters.{total_technology_model_period_activity_lower_limit}
-use Rattle.named_equations.proofs.PositionsInSets.{of_number}
+use Rattle.limit_rows.proofs.Common.{◌≡◌, refl, sym, subst, rules, TAC3, stands_at, total_technology_model_period_activity_lower_limit, of_number}
 use Rattle.limit_rows.proofs.limits.is_set.Goals as goal
 
 pub at-requires-in_default-clause-index : goal.at-requires-in_default-clause-index

@@ -1,8 +1,5 @@
 -- Each number has its variable and its value.
-use Rattle.std.proofs.Common.{◌≡◌, refl, rules}
-use Rattle.row_core.specs.declared.equation_numbers.TheConstants.{TCC1, TCC2, NCC1, NCC2, AAC2, AAC3, TAC2, TAC3}
-use Rattle.named_equations.specs.Parameters.{total_annual_max_capacity, total_annual_min_capacity, total_annual_max_capacity_investment, total_annual_min_capacity_investment, total_technology_annual_activity_upper_limit, total_technology_annual_activity_lower_limit, total_technology_model_period_activity_upper_limit, total_technology_model_period_activity_lower_limit}
-use Rattle.named_equations.proofs.PositionsInSets.{of_number}
+use Rattle.limit_rows.proofs.Common.{◌≡◌, refl, rules, TCC1, TCC2, NCC1, NCC2, AAC2, AAC3, TAC2, TAC3, total_annual_max_capacity, total_annual_min_capacity, total_annual_max_capacity_investment, total_annual_min_capacity_investment, total_technology_annual_activity_upper_limit, total_technology_annual_activity_lower_limit, total_technology_model_period_activity_upper_limit, total_technology_model_period_activity_lower_limit, of_number}
 use Rattle.limit_rows.proofs.Meaning.{terms-at}
 use Rattle.limit_rows.proofs.limits.limit_of.Goals as goal
 

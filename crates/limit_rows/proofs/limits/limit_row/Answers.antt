@@ -1,6 +1,5 @@
 -- The row is that of the limit.
-use Rattle.std.proofs.Common.{sym, subst}
-use Rattle.row_core.specs.EquationTerms.{IsWritten}
+use Rattle.limit_rows.proofs.Common.{sym, subst, IsWritten}
 use Rattle.limit_rows.proofs.limits.limit_row.Goals as goal
 
 pub returns : goal.returns

@@ -1,11 +1,5 @@
 -- One fuel after another.
-use Rattle.std.proofs.Common.{ℕ, ◌+◌, ◌<◌, List, sym, ap, ◌∙◌, subst}
-use Rattle.model_sets.specs.Names.{fuel}
-use Rattle.row_core.specs.declared.Var.{Var}
-use Rattle.row_core.specs.Amounts.{Amount}
-use Rattle.named_equations.specs.Positions.{count_of}
-use Rattle.limit_rows.specs.RenewableTarget.{renewable_production}
-use Rattle.named_equations.proofs.NestedTerms.{with_rest_of, nested-step}
+use Rattle.limit_rows.proofs.Common.{ℕ, ◌+◌, ◌<◌, List, sym, ap, ◌∙◌, subst, fuel, Var, Amount, count_of, renewable_production, with_rest_of, nested-step}
 use Rattle.limit_rows.proofs.renewable_target.re2.Goals as goal
 
 pub loop-f-preserved : goal.loop-f-preserved

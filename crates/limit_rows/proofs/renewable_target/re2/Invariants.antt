@@ -1,10 +1,5 @@
 -- The terms of the fuels from here on make of the left side what the equation's terms make.
-use Rattle.std.proofs.Common.{◌≡◌}
-use Rattle.model_sets.specs.Names.{fuel}
-use Rattle.row_core.specs.Calculated.{no_terms, with_amounts}
-use Rattle.named_equations.specs.Positions.{count_of}
-use Rattle.limit_rows.specs.RenewableTarget.{re2, renewable_production}
-use Rattle.named_equations.proofs.NestedTerms.{with_rest_of}
+use Rattle.limit_rows.proofs.Common.{◌≡◌, fuel, no_terms, with_amounts, count_of, re2, renewable_production, with_rest_of}
 use Rattle.limit_rows.proofs.renewable_target.re2.Given as goal
 
 abbrev pub invariant-loop-f : goal.invariant-loop-f

@@ -1,11 +1,5 @@
 -- One timeslice after another.
-use Rattle.std.proofs.Common.{ℕ, ◌+◌, ◌<◌, List, sym, ap, ◌∙◌, subst}
-use Rattle.model_sets.specs.Names.{timeslice}
-use Rattle.row_core.specs.declared.Var.{Var}
-use Rattle.row_core.specs.Amounts.{Amount}
-use Rattle.named_equations.specs.Positions.{count_of}
-use Rattle.limit_rows.specs.RenewableTarget.{target_production}
-use Rattle.named_equations.proofs.NestedTerms.{with_rest_of, nested-step}
+use Rattle.limit_rows.proofs.Common.{ℕ, ◌+◌, ◌<◌, List, sym, ap, ◌∙◌, subst, timeslice, Var, Amount, count_of, target_production, with_rest_of, nested-step}
 use Rattle.limit_rows.proofs.renewable_target.re3.Goals as goal
 
 pub loop-l-preserved : goal.loop-l-preserved

@@ -1,10 +1,5 @@
 -- The terms of the timeslices from here on make of the left side what the equation's terms make.
-use Rattle.std.proofs.Common.{◌≡◌}
-use Rattle.model_sets.specs.Names.{timeslice}
-use Rattle.row_core.specs.Calculated.{no_terms, with_amounts}
-use Rattle.named_equations.specs.Positions.{count_of}
-use Rattle.limit_rows.specs.RenewableTarget.{re3, target_production}
-use Rattle.named_equations.proofs.NestedTerms.{with_rest_of}
+use Rattle.limit_rows.proofs.Common.{◌≡◌, timeslice, no_terms, with_amounts, count_of, re3, target_production, with_rest_of}
 use Rattle.limit_rows.proofs.renewable_target.re3.Given as goal
 
 abbrev pub invariant-loop-l : goal.invariant-loop-l

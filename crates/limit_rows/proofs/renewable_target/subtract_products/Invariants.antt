@@ -1,7 +1,5 @@
 -- The technologies that are left make of the left side what all of them make of the first.
-use Rattle.std.proofs.Common.{◌≡◌, drop}
-use Rattle.row_core.specs.Calculated.{with_amounts}
-use Rattle.limit_rows.specs.RenewableTarget.{products_of}
+use Rattle.limit_rows.proofs.Common.{◌≡◌, drop, with_amounts, products_of}
 use Rattle.limit_rows.proofs.renewable_target.subtract_products.Given as goal
 
 abbrev pub invariant-loop-maker : goal.invariant-loop-maker

@@ -1,8 +1,5 @@
 -- Those that are listed are technologies.
-use Rattle.std.proofs.Common.{◌∙◌}
-use Rattle.model_sets.specs.Names.{technology}
-use Rattle.named_equations.specs.Positions.{count_of}
-use Rattle.named_equations.specs.Where.{produces}
+use Rattle.limit_rows.proofs.Common.{◌∙◌, technology, count_of, produces}
 use Rattle.limit_rows.proofs.Makers.{below_count}
 use Rattle.limit_rows.proofs.renewable_target.subtract_renewable_production.Goals as goal
 

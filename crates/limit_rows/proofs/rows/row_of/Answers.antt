@@ -1,7 +1,5 @@
 -- Each number has its equation.
-use Rattle.std.proofs.Common.{◌≡◌, sym, subst, rules}
-use Rattle.row_core.specs.declared.equation_numbers.TheConstants.{RE5}
-use Rattle.row_core.specs.EquationTerms.{IsWritten}
+use Rattle.limit_rows.proofs.Common.{◌≡◌, sym, subst, rules, RE5, IsWritten}
 use Rattle.limit_rows.proofs.Meaning.{terms-at}
 use Rattle.limit_rows.proofs.rows.row_of.Goals as goal
 

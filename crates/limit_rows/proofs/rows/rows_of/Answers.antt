@@ -1,12 +1,8 @@
 -- The row is that of the named equation.
-use Rattle.std.proofs.Common.{◌≡◌, true, not, ◌||◌, sym, subst}
+use Rattle.limit_rows.proofs.Common.{◌≡◌, true, not, ◌||◌, sym, subst, equation_formed, name_at, stands_at, named_row, terms_at}
 use Rattle.exact_num.specs.Range.{all_fit}
 use Rattle.row_core.specs.declared.place.Place.{Place}
-use Rattle.row_core.specs.EquationTerms.{equation_formed}
 use Rattle.row_core.specs.Stops.{IsStop}
-use Rattle.named_equations.specs.Instances.{name_at, stands_at}
-use Rattle.named_equations.proofs.TermMeaning.{named_row}
-use Rattle.limit_rows.specs.Rows.{terms_at}
 use Rattle.limit_rows.proofs.Meaning.{named}
 use Rattle.limit_rows.proofs.rows.rows_of.Goals as goal
 

@@ -1,7 +1,5 @@
 -- Each number has its condition.
-use Rattle.std.proofs.Common.{◌≡◌, ◌≢◌, ◌≤◌, true, refl, sym, subst, arith, rules}
-use Rattle.row_core.specs.declared.equation_numbers.TheConstants.{RM1, RE1, RE5}
-use Rattle.named_equations.specs.Instances.{stands_at}
+use Rattle.limit_rows.proofs.Common.{◌≡◌, ◌≢◌, ◌≤◌, true, refl, sym, subst, arith, rules, RM1, RE1, RE5, stands_at}
 use Rattle.limit_rows.proofs.Meaning.{everywhere_else}
 use Rattle.limit_rows.proofs.rows.stands.Goals as goal
 

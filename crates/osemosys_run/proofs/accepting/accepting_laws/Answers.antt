@@ -1,5 +1,4 @@
-use Rattle.std.proofs.Common.{inl, inr}
-use Rattle.check_command.proofs.AcceptedProofs.{ProofLaws}
+use Rattle.osemosys_run.proofs.Common.{inl, inr, ProofLaws}
 use Rattle.osemosys_run.proofs.ProvedEnds.{accepts-end, accepts-from}
 use Rattle.osemosys_run.proofs.SomeVariable.{some-variable}
 use Rattle.osemosys_run.proofs.accepting.accepting_laws.Goals as goal

@@ -1,13 +1,4 @@
-use Rattle.std.proofs.Common.{◌≡◌, ◌∷◌, [], List, ℕ, ap, map, refl, subst, sym}
-use Rattle.std.proofs.lemmas.Result.{IfOk-weaker}
-use Rattle.command_answers.specs.DueForText.{DueForText}
-use Rattle.command_words.specs.Commands.{request_of}
-use Rattle.command_words.specs.Words.{Request, Mps}
-use Rattle.command_words.specs.declared.command.Command.{Command}
-use Rattle.osemosys_run.specs.Compared.{DueForCompared}
-use Rattle.osemosys_run.specs.Due.{DueOver, DueOverData, bytes_at}
-use Rattle.osemosys_run.specs.Replies.{IsReplyTo}
-use Rattle.osemosys_run.specs.Requests.{IsRead}
+use Rattle.osemosys_run.proofs.Common.{◌≡◌, ◌∷◌, [], List, ℕ, ap, map, refl, subst, sym, IfOk-weaker, DueForText, request_of, Request, Mps, Command, DueForCompared, DueOver, DueOverData, bytes_at, IsReplyTo, IsRead}
 use Rattle.osemosys_run.proofs.ReplyLaws.{told_reply}
 use Rattle.osemosys_run.proofs.RequestLaws.{has_one_model, of_one_model, one_read, two_read}
 use Rattle.osemosys_run.proofs.answering.answer.Goals as goal

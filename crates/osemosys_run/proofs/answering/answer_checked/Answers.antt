@@ -1,11 +1,4 @@
-use Rattle.std.proofs.Common.{◌∷◌, List, ℕ, Option, map, subst}
-use Rattle.std.specs.Option.{option_map}
-use Rattle.std.specs.Prelude.{IfOk}
-use Rattle.check_command.specs.Check.{DueForCheck}
-use Rattle.check_command.specs.CheckProof.{DueForProof, DueForProofFile}
-use Rattle.page_command.specs.Pages.{DueForPage}
-use Rattle.table_command.specs.Tables.{DueForTable, form_of}
-use Rattle.osemosys_run.specs.Due.{bytes_at}
+use Rattle.osemosys_run.proofs.Common.{◌∷◌, List, ℕ, Option, map, subst, option_map, IfOk, DueForCheck, DueForProof, DueForProofFile, DueForPage, DueForTable, form_of, bytes_at}
 use Rattle.osemosys_run.proofs.RequestLaws.{as_asked}
 use Rattle.osemosys_run.proofs.answering.answer_checked.Goals as goal
 

@@ -1,7 +1,4 @@
-use Rattle.std.proofs.Common.{◌≡◌, ◌∷◌, inl, inr, refl}
-use Rattle.std.proofs.lemmas.Result.{IfOk-weaker, MatchResult-at_err, MatchResult-at_ok}
-use Rattle.command_answers.specs.Accepted.{Accepted}
-use Rattle.command_words.specs.Words.{Mps}
+use Rattle.osemosys_run.proofs.Common.{◌≡◌, ◌∷◌, inl, inr, refl, IfOk-weaker, MatchResult-at_err, MatchResult-at_ok, Accepted, Mps}
 use Rattle.osemosys_run.proofs.ReplyLaws.{equations_own, told_reply}
 use Rattle.osemosys_run.proofs.answering.answer_mps.Goals as goal
 

@@ -1,11 +1,4 @@
-use Rattle.std.proofs.Common.{◌∷◌, List, ℕ, ℤ, subst}
-use Rattle.std.specs.Prelude.{IfOk}
-use Rattle.curve_command.specs.Curve.{DueForCurve}
-use Rattle.command_words.specs.declared.command.SolveMethod.TheVariants.{Rounded}
-use Rattle.solve_command.specs.Shown.{wanted_by}
-use Rattle.solve_command.specs.Solve.{DueForSolve}
-use Rattle.solve_command.specs.Starts.{DueForSolveFrom}
-use Rattle.solve_command.specs.declared.solve.Wanted.{Wanted}
+use Rattle.osemosys_run.proofs.Common.{◌∷◌, List, ℕ, ℤ, subst, IfOk, DueForCurve, Rounded, wanted_by, DueForSolve, DueForSolveFrom, Wanted}
 use Rattle.osemosys_run.proofs.RequestLaws.{as_asked}
 use Rattle.osemosys_run.proofs.answering.answer_over.Goals as goal
 

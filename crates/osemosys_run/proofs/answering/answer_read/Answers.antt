@@ -1,8 +1,4 @@
-use Rattle.std.proofs.Common.{◌≡◌, ◌∷◌, ℕ, inl, inr, map, subst}
-use Rattle.std.proofs.lemmas.Result.{IfOk-weaker, MatchResult-at_err, MatchResult-at_ok}
-use Rattle.command_answers.specs.Accepted.{Accepted}
-use Rattle.command_words.specs.Commands.{request_of}
-use Rattle.osemosys_run.specs.Due.{DueOverData}
+use Rattle.osemosys_run.proofs.Common.{◌≡◌, ◌∷◌, ℕ, inl, inr, map, subst, IfOk-weaker, MatchResult-at_err, MatchResult-at_ok, Accepted, request_of, DueOverData}
 use Rattle.osemosys_run.proofs.answering.answer_read.Goals as goal
 
 pub returns-in-Ok : goal.returns-in-Ok

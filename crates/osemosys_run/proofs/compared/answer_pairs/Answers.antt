@@ -1,6 +1,4 @@
-use Rattle.std.proofs.Common.{inl}
-use Rattle.std.proofs.lemmas.Result.{IfOk-weaker, MatchResult-at_err, MatchResult-at_ok}
-use Rattle.compare_command.specs.declared.scenarios.Which.TheVariants.{First}
+use Rattle.osemosys_run.proofs.Common.{inl, IfOk-weaker, MatchResult-at_err, MatchResult-at_ok, First}
 use Rattle.osemosys_run.proofs.JudgedScenarios.{refused}
 use Rattle.osemosys_run.proofs.compared.answer_pairs.Goals as goal
 

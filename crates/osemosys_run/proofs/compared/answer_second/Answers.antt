@@ -1,8 +1,4 @@
-use Rattle.std.proofs.Common.{inl, inr, sym, subst}
-use Rattle.std.proofs.lemmas.Result.{IfOk-weaker, MatchResult-at_err, MatchResult-at_ok}
-use Rattle.model_sets.specs.Members.{SetLists}
-use Rattle.compare_command.specs.Compared.{IsOf}
-use Rattle.compare_command.specs.declared.scenarios.Which.TheVariants.{Second}
+use Rattle.osemosys_run.proofs.Common.{inl, inr, sym, subst, IfOk-weaker, MatchResult-at_err, MatchResult-at_ok, SetLists, IsOf, Second}
 use Rattle.osemosys_run.proofs.JudgedScenarios.{refused}
 use Rattle.osemosys_run.proofs.compared.answer_second.Goals as goal
 

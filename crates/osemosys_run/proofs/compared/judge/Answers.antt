@@ -1,7 +1,4 @@
-use Rattle.std.proofs.Common.{◌≡◌, ℕ, List, inl, inr, refl, subst}
-use Rattle.std.proofs.lemmas.Result.{MatchResult-at_err, MatchResult-at_ok}
-use Rattle.command_answers.specs.Accepted.{Accepted}
-use Rattle.osemosys_run.specs.Scenarios.{AcceptsOver, RefusesOver}
+use Rattle.osemosys_run.proofs.Common.{◌≡◌, ℕ, List, inl, inr, refl, subst, MatchResult-at_err, MatchResult-at_ok, Accepted, AcceptsOver, RefusesOver}
 use Rattle.osemosys_run.proofs.JudgedScenarios.{kept, refused-not_done}
 use Rattle.osemosys_run.proofs.compared.judge.Goals as goal
 

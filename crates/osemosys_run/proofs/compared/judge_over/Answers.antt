@@ -1,8 +1,4 @@
-use Rattle.std.proofs.Common.{inr, sym, subst}
-use Rattle.std.proofs.lemmas.Result.{IfOk-weaker}
-use Rattle.model_sets.specs.Members.{SetLists}
-use Rattle.command_answers.specs.CheckedPlans.{IsListedBook}
-use Rattle.command_answers.specs.MadeBooks.{TellsMade}
+use Rattle.osemosys_run.proofs.Common.{inr, sym, subst, IfOk-weaker, SetLists, IsListedBook, TellsMade}
 use Rattle.osemosys_run.proofs.JudgedScenarios.{no-rows-not_done, told-over}
 use Rattle.osemosys_run.proofs.compared.judge_over.Goals as goal
 

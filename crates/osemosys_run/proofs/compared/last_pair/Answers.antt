@@ -1,5 +1,4 @@
-use Rattle.std.proofs.Common.{◌≡◌, ◌∙◌, ◌∷◌, ◌++◌, [], ap, map, sym}
-use Rattle.std.proofs.lemmas.List.{map-append}
+use Rattle.osemosys_run.proofs.Common.{◌≡◌, ◌∙◌, ◌∷◌, ◌++◌, [], ap, map, sym, map-append}
 use Rattle.osemosys_run.proofs.RequestLaws.{same_last}
 use Rattle.osemosys_run.proofs.compared.last_pair.Goals as goal
 

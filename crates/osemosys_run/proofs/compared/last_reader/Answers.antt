@@ -1,6 +1,4 @@
-use Rattle.std.proofs.Common.{◌∷◌, ◌++◌, [], List, subst}
-use Rattle.mathprog_data.specs.Pieces.{PieceState, StandsFor}
-use Rattle.request_files.specs.Marked.{AllHold}
+use Rattle.osemosys_run.proofs.Common.{◌∷◌, ◌++◌, [], List, subst, PieceState, StandsFor, AllHold}
 use Rattle.osemosys_run.proofs.RequestLaws.{last_holds}
 use Rattle.osemosys_run.proofs.compared.last_reader.Goals as goal
 

@@ -1,7 +1,4 @@
-use Rattle.std.proofs.Common.{sym, subst}
-use Rattle.osemosys_run.specs.Sending.{Delivers, sent}
-use Rattle.osemosys_run.specs.Replies.{CanBeSent, DueForReply, IsAsMade}
-use Rattle.osemosys_run.specs.declared.reply.Reply.{Reply}
+use Rattle.osemosys_run.proofs.Common.{sym, subst, Delivers, sent, CanBeSent, DueForReply, IsAsMade, Reply}
 use Rattle.osemosys_run.proofs.delivering.deliver.Goals as goal
 
 pub send_answer-requires : goal.send_answer-requires

@@ -1,16 +1,7 @@
-use Rattle.std.proofs.Common.{◌≡◌, ◌∙◌, ℕ, List, inl, inr, refl, sym, ap, subst}
-use Rattle.std.specs.Prelude.{⊤}
-use Rattle.row_core.specs.declared.Var.{Var}
+use Rattle.osemosys_run.proofs.Common.{◌≡◌, ◌∙◌, ℕ, List, inl, inr, refl, sym, ap, subst, ⊤, Var, rows_text, TellsFail, Status, Done, sent, DueForEquations, IsTold}
 use Rattle.row_core.specs.Contents.{RowContents}
-use Rattle.mps_writer.specs.MpsText.{rows_text}
 use Rattle.row_book.specs.Feeds.{AreContentsOf}
-use Rattle.command_answers.specs.BookFails.{TellsFail}
-use Rattle.command_answers.specs.declared.status.Status.{Status}
-use Rattle.command_answers.specs.declared.status.Status.TheVariants.{Done}
 use Rattle.command_answers.proofs.BookEnds.{refused_told}
-use Rattle.osemosys_run.specs.Sending.{sent}
-use Rattle.osemosys_run.specs.Mps.{DueForEquations}
-use Rattle.osemosys_run.specs.Replies.{IsTold}
 use Rattle.osemosys_run.proofs.RunLaws.{delivers-weaker}
 use Rattle.osemosys_run.proofs.equations.write_equations.Goals as goal
 

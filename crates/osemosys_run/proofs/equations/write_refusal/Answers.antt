@@ -1,12 +1,5 @@
-use Rattle.std.proofs.Common.{List, ℕ, inl, inr, refl, subst, sym}
-use Rattle.model_sets.specs.Members.{SetLists}
-use Rattle.command_answers.specs.BookFails.{TellsFail}
-use Rattle.command_answers.specs.declared.status.Status.{Status}
-use Rattle.row_book.specs.declared.fail.BookFail.{BookFail}
+use Rattle.osemosys_run.proofs.Common.{List, ℕ, inl, inr, refl, subst, sym, SetLists, TellsFail, Status, BookFail, CanBeTold, sent, IsTold}
 use Rattle.row_book.specs.declared.fail.BookFail.TheVariants as fails
-use Rattle.osemosys_run.specs.Replies.{CanBeTold}
-use Rattle.osemosys_run.specs.Sending.{sent}
-use Rattle.osemosys_run.specs.Replies.{IsTold}
 use Rattle.osemosys_run.proofs.ReplyLaws.{told_so}
 use Rattle.osemosys_run.proofs.RunLaws.{delivers-weaker}
 use Rattle.osemosys_run.proofs.equations.write_refusal.Goals as goal

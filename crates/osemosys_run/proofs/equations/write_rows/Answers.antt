@@ -1,10 +1,4 @@
-use Rattle.std.proofs.Common.{refl, sym, subst, rules, inl, inr}
-use Rattle.std.specs.List.{AllByRecursion}
-use Rattle.io_edges.specs.Outputs.{Took, TookPrefix}
-use Rattle.model_sets.specs.Members.{SetLists}
-use Rattle.mps_writer.specs.MpsText.{IsNamedRow, IsNamedVariable, rows_text}
-use Rattle.command_answers.specs.declared.status.Status.TheVariants.{Done}
-use Rattle.osemosys_run.specs.Sending.{sent}
+use Rattle.osemosys_run.proofs.Common.{refl, sym, subst, rules, inl, inr, AllByRecursion, Took, TookPrefix, SetLists, IsNamedRow, IsNamedVariable, rows_text, Done, sent}
 use Rattle.osemosys_run.proofs.equations.write_rows.Goals as goal
 
 pub mps_to-requires-clause-rows : goal.mps_to-requires-clause-rows

@@ -1,7 +1,4 @@
-use Rattle.std.proofs.Common.{◌≡◌, inr, subst}
-use Rattle.std.proofs.lemmas.Result.{IfOk-weaker, MatchResult-at_ok}
-use Rattle.command_answers.specs.Accepted.{Accepted}
-use Rattle.solve_command.specs.Summary.{DueForSummary, default_places}
+use Rattle.osemosys_run.proofs.Common.{◌≡◌, inr, subst, IfOk-weaker, MatchResult-at_ok, Accepted, DueForSummary, default_places}
 use Rattle.osemosys_run.proofs.making.answer_made.Goals as goal
 
 pub returns-in-Ok : goal.returns-in-Ok

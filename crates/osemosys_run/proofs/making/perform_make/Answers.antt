@@ -1,9 +1,4 @@
-use Rattle.std.proofs.Common.{◌≡◌, ◌++◌, List, ℕ, sym, subst}
-use Rattle.std.proofs.lemmas.Result.{IfOk-weaker}
-use Rattle.command_words.specs.declared.command.MakeShow.{MakeShow}
-use Rattle.osemosys_run.specs.Due.{DueForMake}
-use Rattle.command_answers.specs.DueForText.{DueForText}
-use Rattle.solve_command.specs.Summary.{DueForSummary, default_places, made_line}
+use Rattle.osemosys_run.proofs.Common.{◌≡◌, ◌++◌, List, ℕ, sym, subst, IfOk-weaker, MakeShow, DueForMake, DueForText, DueForSummary, default_places, made_line}
 use Rattle.osemosys_run.proofs.making.perform_make.Goals as goal
 
 pub returns-in-Summary : goal.returns-in-Summary

@@ -1,10 +1,4 @@
-use Rattle.std.proofs.Common.{List, inl, inr, sym, subst}
-use Rattle.std.proofs.lemmas.Result.{IfOk-weaker}
-use Rattle.model_sets.specs.Members.{SetLists}
-use Rattle.row_core.specs.declared.Row.{Row}
-use Rattle.command_answers.specs.CheckedPlans.{IsListedBook}
-use Rattle.command_answers.specs.ShownProofs.{HasWorth}
-use Rattle.check_command.specs.AcceptedProofs.{TellsProof}
+use Rattle.osemosys_run.proofs.Common.{List, inl, inr, sym, subst, IfOk-weaker, SetLists, Row, IsListedBook, HasWorth, TellsProof}
 use Rattle.osemosys_run.proofs.page_file.answer_over.Goals as goal
 
 pub accepted_proof-requires : goal.accepted_proof-requires

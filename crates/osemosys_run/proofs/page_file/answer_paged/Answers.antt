@@ -1,6 +1,4 @@
-use Rattle.std.proofs.Common.{inl, inr, subst}
-use Rattle.std.proofs.lemmas.Result.{IfOk-weaker}
-use Rattle.command_answers.specs.MadeBooks.{TellsMade}
+use Rattle.osemosys_run.proofs.Common.{inl, inr, subst, IfOk-weaker, TellsMade}
 use Rattle.osemosys_run.proofs.page_file.answer_paged.Goals as goal
 
 pub answer_over-requires-clause-listed : goal.answer_over-requires-clause-listed

@@ -1,5 +1,4 @@
-use Rattle.check_command.proofs.AcceptedProofs.{ProofLaws}
-use Rattle.table_command.specs.Tables.{form_of}
+use Rattle.osemosys_run.proofs.Common.{ProofLaws, form_of}
 use Rattle.osemosys_run.proofs.PromisedTables.{table-promised}
 use Rattle.osemosys_run.proofs.promised.promised_laws.Goals as goal
 

@@ -1,12 +1,4 @@
-use Rattle.std.proofs.Common.{◌≡◌, IsSome, Some, arith, map, List, ℕ, Result, Ok, ap, inl, inr, refl, subst, sym, ◌∙◌}
-use Rattle.std.specs.String.{string_bytes}
-use Rattle.command_words.specs.Words.{Request, asked}
-use Rattle.request_files.specs.Sights.{Sight, seen}
-use Rattle.osemosys_run.specs.Due.{AskForEquations, Due}
-use Rattle.io_edges.specs.Count.{Rose}
-use Rattle.osemosys_run.specs.Replies.{DueForReply, IsAsMade, IsForEquations}
-use Rattle.osemosys_run.specs.Causes.{Caused}
-use Rattle.osemosys_run.specs.Sending.{Sent, sent}
+use Rattle.osemosys_run.proofs.Common.{◌≡◌, IsSome, Some, arith, map, List, ℕ, Result, Ok, ap, inl, inr, refl, subst, sym, ◌∙◌, string_bytes, Request, asked, Sight, seen, AskForEquations, Due, Rose, DueForReply, IsAsMade, IsForEquations, Caused, Sent, sent}
 use Rattle.osemosys_run.proofs.RunLaws.{delivered-complete, delivered-failed_read, delivered-failed_write, delivered-read, delivered-whole, delivers-weaker, due-caused}
 use Rattle.osemosys_run.proofs.run.osemosys_watched.Goals as goal
 

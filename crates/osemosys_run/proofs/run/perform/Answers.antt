@@ -1,15 +1,5 @@
-use Rattle.std.proofs.Common.{◌≡◌, ◌∙◌, [], Result, Ok, Err, ap, inl, refl, sym, subst, map}
-use Rattle.std.proofs.lemmas.Result.{IfOk-weaker}
-use Rattle.std.specs.String.{string_bytes}
-use Rattle.command_words.specs.Commands.{request_of, request_of_result}
-use Rattle.command_words.specs.Words.{Request, asked}
-use Rattle.command_words.specs.declared.fault.WordFault.{WordFault}
-use Rattle.request_files.specs.Sights.{seen}
-use Rattle.osemosys_run.specs.Due.{DueOverAsked}
-use Rattle.osemosys_run.specs.Replies.{CanBeTold, IsOwn}
-use Rattle.osemosys_run.specs.declared.reply.Reply.TheVariants.{Told}
+use Rattle.osemosys_run.proofs.Common.{◌≡◌, ◌∙◌, [], Result, Ok, Err, ap, inl, refl, sym, subst, map, IfOk-weaker, string_bytes, request_of, request_of_result, Request, asked, WordFault, seen, DueOverAsked, CanBeTold, IsOwn, Told, IsReplyFor}
 use Rattle.osemosys_run.proofs.ReplyLaws.{told_so}
-use Rattle.osemosys_run.specs.Causes.{IsReplyFor}
 use Rattle.osemosys_run.proofs.AskedRanges.{asked-in-range}
 use Rattle.osemosys_run.proofs.run.perform.Goals as goal
 

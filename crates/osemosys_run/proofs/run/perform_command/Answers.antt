@@ -1,22 +1,9 @@
-use Rattle.std.proofs.Common.{◌≡◌, ◌+◌, ◌∙◌, List, ℕ, ap, arith, inl, inr, length, refl, subst, sym}
-use Rattle.std.proofs.lemmas.List.{length-map}
-use Rattle.std.proofs.lemmas.Result.{IfOk-weaker, MatchResult-at_err, MatchResult-at_ok}
-use Rattle.command_answers.specs.declared.status.Status.{Status}
-use Rattle.command_words.specs.Commands.{request_of}
-use Rattle.command_words.specs.Words.{Request, names_of}
-use Rattle.request_files.specs.Marked.{marks_of}
+use Rattle.osemosys_run.proofs.Common.{◌≡◌, ◌+◌, ◌∙◌, List, ℕ, ap, arith, inl, inr, length, refl, subst, sym, length-map, IfOk-weaker, MatchResult-at_err, MatchResult-at_ok, Status, request_of, Request, names_of, marks_of, StopsAt, seen, ReadEnd, all-short, as-many, stops-within, CanBeTold, marks_for, TellsEnd}
 use Rattle.request_files.specs.Marked as marked
-use Rattle.request_files.specs.InTurn.{StopsAt}
-use Rattle.request_files.specs.Sights.{seen}
 use Rattle.request_files.specs.declared.marked.RequestFile.{RequestFile}
-use Rattle.request_files.specs.declared.whole.ReadEnd.{ReadEnd}
 use Rattle.request_files.specs.declared.whole.ReadEnd.TheVariants.{NoFile, Failed, TooLong, Memory}
-use Rattle.request_files.proofs.InTurnLaws.{all-short, as-many, stops-within}
 use Rattle.request_files.proofs.MarkedLaws.{found-as}
-use Rattle.osemosys_run.specs.Replies.{CanBeTold}
-use Rattle.osemosys_run.specs.Requests.{marks_for}
 use Rattle.osemosys_run.proofs.ReplyLaws.{told_so}
-use Rattle.osemosys_run.specs.Causes.{TellsEnd}
 use Rattle.osemosys_run.proofs.run.perform_command.Goals as goal
 
 -- an end that is told can be told

@@ -1,8 +1,5 @@
-use Rattle.std.proofs.Common.{arith, subst, take, sym}
+use Rattle.osemosys_run.proofs.Common.{arith, subst, take, sym, Output, Took, TookPrefix, output-stays, took-nothing, sent}
 use Rattle.std.proofs.lemmas.Grind.{common_steps}
-use Rattle.io_edges.specs.Outputs.{Output, Took, TookPrefix}
-use Rattle.io_edges.proofs.OutputLaws.{output-stays, took-nothing}
-use Rattle.osemosys_run.specs.Sending.{sent}
 use Rattle.osemosys_run.proofs.SentLaws.{at_error, sent_all, sent_more}
 use Rattle.osemosys_run.proofs.sending.send.Goals as goal
 

@@ -1,6 +1,4 @@
-use Rattle.std.proofs.Common.{◌-◌, ◌≤◌, length, take}
-use Rattle.io_edges.specs.Outputs.{Took}
-use Rattle.osemosys_run.specs.Sending.{sent}
+use Rattle.osemosys_run.proofs.Common.{◌-◌, ◌≤◌, length, take, Took, sent}
 use Rattle.osemosys_run.proofs.sending.send.Given as goal
 
 -- the prefix that was sent is what the sink took

@@ -1,6 +1,4 @@
-use Rattle.std.proofs.Common.{List, ℕ, inl, inr, refl, subst}
-use Rattle.io_edges.specs.Outputs.{Took, TookPrefix}
-use Rattle.osemosys_run.specs.Sending.{sent}
+use Rattle.osemosys_run.proofs.Common.{List, ℕ, inl, inr, refl, subst, Took, TookPrefix, sent}
 use Rattle.osemosys_run.proofs.sending.send_answer.Goals as goal
 
 pub returns-in-Ok-clause-delivers : goal.returns-in-Ok-clause-delivers

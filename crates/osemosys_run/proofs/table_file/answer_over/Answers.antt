@@ -1,13 +1,6 @@
-use Rattle.std.proofs.Common.{List, map, inl, inr, sym, subst}
-use Rattle.std.proofs.lemmas.Result.{IfOk-weaker}
-use Rattle.std.specs.List.{AllByRecursion}
-use Rattle.model_sets.specs.Members.{SetLists}
-use Rattle.row_core.specs.declared.Row.{Row}
+use Rattle.osemosys_run.proofs.Common.{List, map, inl, inr, sym, subst, IfOk-weaker, AllByRecursion, SetLists, Row, NumberForm, TellsProof, ShowsProof}
 use Rattle.plan_files.specs.Listed.{IsListedRow, name_of_row}
-use Rattle.plan_tables.specs.declared.shown.NumberForm.{NumberForm}
 use Rattle.proof_files.specs.PlansWithin.{HasPlanWithin}
-use Rattle.check_command.specs.AcceptedProofs.{TellsProof}
-use Rattle.table_command.specs.Tables.{ShowsProof}
 use Rattle.osemosys_run.proofs.table_file.answer_over.Goals as goal
 
 pub answer_shown-requires-clause-listed : goal.answer_shown-requires-clause-listed

@@ -1,9 +1,4 @@
-use Rattle.std.proofs.Common.{inl, inr, sym, ◌∙◌, ap, subst}
-use Rattle.std.specs.Prelude.{IfSome}
-use Rattle.std.proofs.lemmas.Result.{IfOk-weaker}
-use Rattle.command_answers.specs.CheckedPlans.{IsListedBook}
-use Rattle.command_answers.specs.MadeBooks.{TellsMade}
-use Rattle.table_command.specs.ShownTables.{IsShowable, shown_named}
+use Rattle.osemosys_run.proofs.Common.{inl, inr, sym, ◌∙◌, ap, subst, IfSome, IfOk-weaker, IsListedBook, TellsMade, IsShowable, shown_named}
 use Rattle.osemosys_run.proofs.table_file.answer_table.Goals as goal
 
 pub answer_over-requires-clause-shown : goal.answer_over-requires-clause-shown

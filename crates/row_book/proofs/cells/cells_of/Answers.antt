@@ -1,7 +1,4 @@
-use Rattle.std.proofs.Common.{◌∙◌, ap}
-use Rattle.std.proofs.lemmas.Result.{IfOk-weaker}
-use Rattle.named_equations.specs.Instances.{subscripts_of}
-use Rattle.row_book.specs.Walks.{inner_subscripts, walk}
+use Rattle.row_book.proofs.Common.{◌∙◌, ap, IfOk-weaker, subscripts_of, inner_subscripts, walk}
 use Rattle.row_book.proofs.CellLaws.{asked-emission, asked-everywhere, asked-input, asked-output, asked-some_input, asked-some_output, asked-whole}
 use Rattle.row_book.proofs.cells.cells_of.Goals as goal
 

@@ -1,7 +1,4 @@
-use Rattle.std.proofs.Common.{◌∙◌, ap}
-use Rattle.std.proofs.lemmas.Result.{IfOk-weaker}
-use Rattle.named_equations.specs.Instances.{subscripts_of}
-use Rattle.row_book.specs.Walks.{outer_subscripts, walk}
+use Rattle.row_book.proofs.Common.{◌∙◌, ap, IfOk-weaker, subscripts_of, outer_subscripts, walk}
 use Rattle.row_book.proofs.cells.outers_of.Goals as goal
 
 pub returns : goal.returns

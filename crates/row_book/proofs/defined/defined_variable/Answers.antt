@@ -1,7 +1,4 @@
-use Rattle.std.proofs.Common.{◌≢◌, ◌∙◌, Some, ap, arith, rules}
-use Rattle.row_core.specs.declared.Index.{Index}
-use Rattle.row_core.specs.Equations.{IsEquation}
-use Rattle.named_equations.specs.Variables.{variable}
+use Rattle.row_book.proofs.Common.{◌≢◌, ◌∙◌, Some, ap, arith, rules, Index, IsEquation, variable}
 use Rattle.row_book.proofs.KindLaws.{none-defined, nothing-defined, trade-defined, variable-defined}
 use Rattle.row_book.proofs.defined.defined_variable.Goals as goal
 

@@ -1,10 +1,5 @@
-use Rattle.std.proofs.Common.{◌≡◌, ◌∙◌, ◌≤◌, inl, inr, length, ap, sym, arith}
-use Rattle.std.proofs.lemmas.Bool.{cases_lt}
-use Rattle.model_sets.specs.Members.{members}
+use Rattle.row_book.proofs.Common.{◌≡◌, ◌∙◌, ◌≤◌, inl, inr, length, ap, sym, arith, cases_lt, members, count_of, life_of, nat_cmp, ord_max}
 use Rattle.model_sets.specs.Names as sets
-use Rattle.named_equations.specs.Positions.{count_of}
-use Rattle.named_equations.specs.WrittenFactors.{life_of}
-use Rattle.std.specs.Ordering.{nat_cmp, ord_max}
 use Rattle.row_book.proofs.Periods.{both-within}
 use Rattle.row_book.proofs.factors.longest_life.Goals as goal
 

@@ -1,5 +1,4 @@
-use Rattle.std.proofs.Common.{ℕ, ◌<◌, ◌≤◌}
-use Rattle.named_equations.specs.WrittenFactors.{life_of}
+use Rattle.row_book.proofs.Common.{ℕ, ◌<◌, ◌≤◌, life_of}
 use Rattle.row_book.proofs.factors.longest_life.Given as goal
 
 -- the lives so far are no longer than the longest

@@ -1,11 +1,6 @@
-use Rattle.std.proofs.Common.{◌≡◌, ◌∙◌, ◌+◌, List, [], ◌∷◌, ◌++◌, inl, inr, length, ap, sym, subst, arith}
+use Rattle.row_book.proofs.Common.{◌≡◌, ◌∙◌, ◌+◌, List, [], ◌∷◌, ◌++◌, inl, inr, length, ap, sym, subst, arith, slice_get, Discounting, members, count_of, AreFactorsOf}
 use Rattle.std.proofs.lemmas.List.{length-append}
-use Rattle.std.specs.Prelude.{slice_get}
-use Rattle.discount_factors.specs.Known.{Discounting}
-use Rattle.model_sets.specs.Members.{members}
 use Rattle.model_sets.specs.Names as sets
-use Rattle.named_equations.specs.Positions.{count_of}
-use Rattle.named_equations.specs.RegionFactors.{AreFactorsOf}
 use Rattle.row_book.proofs.Periods.{place-of_more}
 use Rattle.row_book.proofs.factors.region_factors.Goals as goal
 

@@ -1,7 +1,4 @@
-use Rattle.std.proofs.Common.{◌≡◌, ℕ, length, Some}
-use Rattle.std.specs.Prelude.{slice_get}
-use Rattle.discount_factors.specs.Known.{Discounting}
-use Rattle.named_equations.specs.RegionFactors.{AreFactorsOf}
+use Rattle.row_book.proofs.Common.{◌≡◌, ℕ, length, Some, slice_get, Discounting, AreFactorsOf}
 use Rattle.row_book.proofs.factors.region_factors.Given as goal
 
 -- those of the regions so far

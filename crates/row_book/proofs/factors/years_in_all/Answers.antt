@@ -1,5 +1,4 @@
-use Rattle.std.proofs.Common.{◌≤◌, arith, refl}
-use Rattle.model_sets.specs.Members.{members}
+use Rattle.row_book.proofs.Common.{◌≤◌, arith, refl, members}
 use Rattle.model_sets.specs.Names as sets
 use Rattle.row_book.proofs.Periods.{year-short}
 use Rattle.row_book.proofs.factors.years_in_all.Goals as goal

@@ -1,7 +1,4 @@
-use Rattle.std.proofs.Common.{◌≡◌, ◌<◌, ◌≤◌, ◌∙◌, sym, arith}
-use Rattle.row_book.specs.declared.fail.BookFail.TheVariants.{Width, TooManyEntries, Memory}
-use Rattle.named_equations.specs.Instances.{instances_of}
-use Rattle.named_equations.specs.RegionFactors.{places_of}
+use Rattle.row_book.proofs.Common.{◌≡◌, ◌<◌, ◌≤◌, ◌∙◌, sym, arith, Width, TooManyEntries, Memory, instances_of, places_of}
 use Rattle.row_book.proofs.FeedLaws.{reversed-says}
 use Rattle.row_book.proofs.MadeAgain.{equation-stops}
 use Rattle.row_book.proofs.RowsAddedLaws.{alone}

@@ -1,10 +1,4 @@
-use Rattle.std.proofs.Common.{List, ◌++◌, subst, arith}
-use Rattle.std.proofs.lemmas.Result.{on_ok_weaker}
-use Rattle.row_core.specs.declared.Row.{Row}
-use Rattle.row_core.specs.declared.Var.{Var}
-use Rattle.row_core.specs.RowLists.{entry_variables}
-use Rattle.row_book.specs.Held.{held_variables}
-use Rattle.row_book.specs.Tallies.{AreSameVariables}
+use Rattle.row_book.proofs.Common.{List, ◌++◌, subst, arith, on_ok_weaker, Row, Var, entry_variables, held_variables, AreSameVariables}
 use Rattle.row_book.proofs.HeldVariables.{completed-more, completed-sorted}
 use Rattle.row_book.proofs.gathering.complete_variables.Goals as goal
 

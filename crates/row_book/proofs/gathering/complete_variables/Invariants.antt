@@ -1,6 +1,4 @@
-use Rattle.std.proofs.Common.{◌++◌, drop}
-use Rattle.row_book.specs.Held.{held_variables}
-use Rattle.row_book.specs.Tallies.{AreSameVariables}
+use Rattle.row_book.proofs.Common.{◌++◌, drop, held_variables, AreSameVariables}
 use Rattle.row_book.proofs.gathering.complete_variables.Given as goal
 
 -- with the variables of the rows that are left, those so far are the ones from before and those of all rows that are held

@@ -1,5 +1,4 @@
-use Rattle.std.proofs.Common.{◌++◌}
-use Rattle.row_core.specs.RowLists.{entry_variables}
+use Rattle.row_book.proofs.Common.{◌++◌, entry_variables}
 use Rattle.row_book.proofs.TallyLaws.{sorted-same}
 use Rattle.row_book.proofs.gathering.gather_variables.Goals as goal
 

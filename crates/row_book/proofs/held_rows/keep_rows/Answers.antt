@@ -1,11 +1,4 @@
-use Rattle.std.proofs.Common.{List, ◌++◌, refl, subst, inl, inr}
-use Rattle.std.specs.Prelude.{OnOk}
-use Rattle.std.proofs.lemmas.Result.{on_ok_weaker}
-use Rattle.row_core.specs.declared.Row.{Row}
-use Rattle.row_core.specs.declared.Var.{Var}
-use Rattle.row_core.specs.RowLists.{entry_variables}
-use Rattle.row_book.specs.Held.{held_variables}
-use Rattle.row_book.specs.Tallies.{AreSameVariables}
+use Rattle.row_book.proofs.Common.{List, ◌++◌, refl, subst, inl, inr, OnOk, on_ok_weaker, Row, Var, entry_variables, held_variables, AreSameVariables}
 use Rattle.row_book.proofs.HeldVariables.{gathered-beside, held-same}
 use Rattle.row_book.proofs.held_rows.keep_rows.Goals as goal
 

@@ -1,6 +1,4 @@
-use Rattle.std.proofs.Common.{◌≤◌, arith, rules}
-use Rattle.std.proofs.lemmas.Result.{IfErr-weaker}
-use Rattle.named_equations.specs.RegionFactors.{places_of}
+use Rattle.row_book.proofs.Common.{◌≤◌, arith, rules, IfErr-weaker, places_of}
 use Rattle.row_book.proofs.InstanceRows.{capacity-stops}
 use Rattle.row_book.proofs.instance_row.row_of.Goals as goal
 

@@ -1,7 +1,4 @@
-use Rattle.std.proofs.Common.{◌++◌, List, subst, sym}
-use Rattle.std.specs.List.Sorted.{IsPermutation}
-use Rattle.std.proofs.lemmas.List.Sorted.{IsPermutation-append, IsPermutation-refl}
-use Rattle.row_core.specs.declared.Var.{Var}
+use Rattle.row_book.proofs.Common.{◌++◌, List, subst, sym, IsPermutation, IsPermutation-append, IsPermutation-refl, Var}
 use Rattle.row_book.proofs.key_order.+sort_pieces.Goals as goal
 
 pub returns-in-Ok : goal.returns-in-Ok

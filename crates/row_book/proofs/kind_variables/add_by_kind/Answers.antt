@@ -1,9 +1,4 @@
-use Rattle.std.proofs.Common.{◌<◌, ◌∙◌, ◌++◌, ℕ, List, subst, sym, arith}
-use Rattle.std.specs.Prelude.{filter}
-use Rattle.row_core.specs.declared.Var.{Var}
-use Rattle.row_core.specs.RowLists.{entry_variables}
-use Rattle.row_book.specs.KindVariables.{is_before_kind}
-use Rattle.row_book.specs.Tallies.{AreSameVariables}
+use Rattle.row_book.proofs.Common.{◌<◌, ◌∙◌, ◌++◌, ℕ, List, subst, sym, arith, filter, Var, entry_variables, is_before_kind, AreSameVariables}
 use Rattle.row_book.proofs.KindVariableLaws.{all-added, kind-added, later, none-added}
 use Rattle.row_book.proofs.kind_variables.add_by_kind.Goals as goal
 

@@ -1,8 +1,4 @@
-use Rattle.std.proofs.Common.{◌++◌, ◌-◌}
-use Rattle.std.specs.Prelude.{filter}
-use Rattle.row_core.specs.RowLists.{entry_variables}
-use Rattle.row_book.specs.KindVariables.{is_before_kind}
-use Rattle.row_book.specs.Tallies.{AreSameVariables}
+use Rattle.row_book.proofs.Common.{◌++◌, ◌-◌, filter, entry_variables, is_before_kind, AreSameVariables}
 use Rattle.row_book.proofs.kind_variables.add_by_kind.Given as goal
 
 -- those of the kinds before this one are added

@@ -1,10 +1,5 @@
-use Rattle.std.proofs.Common.{◌≡◌, ◌+◌, ◌++◌, List, drop}
+use Rattle.row_book.proofs.Common.{◌≡◌, ◌+◌, ◌++◌, List, drop, Row, Var, variables_of, entry_variables, is_of_kind, next_kind}
 use Rattle.std.specs.Prelude.{None, filter}
-use Rattle.row_core.specs.declared.Row.{Row}
-use Rattle.row_core.specs.declared.Var.{Var}
-use Rattle.row_core.specs.Numbers.{variables_of}
-use Rattle.row_core.specs.RowLists.{entry_variables}
-use Rattle.row_book.specs.KindVariables.{is_of_kind, next_kind}
 use Rattle.row_book.proofs.KindVariableLaws.{added-more, next-more, split}
 use Rattle.row_book.proofs.kind_variables.add_kind.Goals as goal
 

@@ -1,7 +1,5 @@
-use Rattle.std.proofs.Common.{◌≡◌, ◌++◌, drop}
+use Rattle.row_book.proofs.Common.{◌≡◌, ◌++◌, drop, entry_variables, is_of_kind, next_kind}
 use Rattle.std.specs.Prelude.{None, filter}
-use Rattle.row_core.specs.RowLists.{entry_variables}
-use Rattle.row_book.specs.KindVariables.{is_of_kind, next_kind}
 use Rattle.row_book.proofs.kind_variables.add_kind.Given as goal
 
 -- with the rows that are left, the variables so far are those from before and those of the kind, and the next kind is that of all

@@ -1,7 +1,4 @@
-use Rattle.std.proofs.Common.{◌≡◌, ◌++◌, drop}
-use Rattle.std.specs.Prelude.{filter}
-use Rattle.row_core.specs.Numbers.{variables_of}
-use Rattle.row_book.specs.KindVariables.{is_of_kind, next_kind}
+use Rattle.row_book.proofs.Common.{◌≡◌, ◌++◌, drop, filter, variables_of, is_of_kind, next_kind}
 use Rattle.row_book.proofs.kind_variables.add_kind_of_row.Given as goal
 
 -- with the entries that are left, the variables so far are those from before and those of the kind, and the next kind is that of all

@@ -1,6 +1,4 @@
-use Rattle.std.proofs.Common.{List, ◌∙◌, ap, map}
-use Rattle.param_tables.specs.declared.ratios.RatioIndex.{RatioIndex}
-use Rattle.row_book.specs.Ratios.{cell_at}
+use Rattle.row_book.proofs.Common.{List, ◌∙◌, ap, map, RatioIndex, cell_at}
 use Rattle.row_book.proofs.RatioIndices.{listed-cells}
 use Rattle.row_book.proofs.ratios.cells_of_ratio.Goals as goal
 

@@ -1,7 +1,5 @@
-use Rattle.std.proofs.Common.{◌∙◌, ap, map}
-use Rattle.std.proofs.lemmas.List.Filters.{dedup_is}
+use Rattle.row_book.proofs.Common.{◌∙◌, ap, map, dedup_is, with_mode}
 use Rattle.row_core.specs.contracts.index_order.IndexOrd.TheImpl.Laws.{matches_eq-law}
-use Rattle.row_book.specs.Ratios.{with_mode}
 use Rattle.row_book.proofs.RatioCells.{some-mode-cells}
 use Rattle.row_book.proofs.ratios.cells_of_some_mode.Goals as goal
 

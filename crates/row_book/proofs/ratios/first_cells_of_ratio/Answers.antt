@@ -1,8 +1,4 @@
-use Rattle.std.proofs.Common.{List, ◌∙◌, ap, map, sym, take}
-use Rattle.std.proofs.lemmas.List.{take-map}
-use Rattle.param_tables.specs.Ratios.{nonzero_indices}
-use Rattle.param_tables.specs.declared.ratios.RatioIndex.{RatioIndex}
-use Rattle.row_book.specs.Ratios.{cell_at}
+use Rattle.row_book.proofs.Common.{List, ◌∙◌, ap, map, sym, take, take-map, nonzero_indices, RatioIndex, cell_at}
 use Rattle.row_book.proofs.RatioIndices.{listed-cells}
 use Rattle.row_book.proofs.ratios.first_cells_of_ratio.Goals as goal
 

@@ -1,6 +1,5 @@
 -- The entries from here on are at the same variables exactly where all of them are.
-use Rattle.std.proofs.Common.{◌≡◌, drop}
-use Rattle.row_book.specs.Replaced.{same_variables}
+use Rattle.row_book.proofs.Common.{◌≡◌, drop, same_variables}
 use Rattle.row_book.proofs.replaced.have_same_variables.Given as goal
 
 abbrev pub invariant-loop-i : goal.invariant-loop-i

@@ -1,9 +1,5 @@
 -- Row by row.
-use Rattle.std.proofs.Common.{◌≡◌, refl, sym, subst, arith, inl, inr, true≢false}
-use Rattle.std.proofs.lemmas.Bool.{cases_lt}
-use Rattle.row_core.specs.declared.Row.{Row}
-use Rattle.row_book.specs.Definitions.{IsAt}
-use Rattle.row_book.specs.Replaced.{AreTwins}
+use Rattle.row_book.proofs.Common.{◌≡◌, refl, sym, subst, arith, inl, inr, true≢false, cases_lt, Row, IsAt, AreTwins}
 use Rattle.row_book.proofs.KeptLaws.{at-index, same_row}
 use Rattle.row_book.proofs.ReplacedLaws.{slice-within}
 use Rattle.row_book.proofs.replaced.position_of_twin.Goals as goal

@@ -1,8 +1,5 @@
 -- What the rows are of by the places of the factors, they are of by the places that are asked for.
-use Rattle.std.proofs.Common.{List, sym, subst}
-use Rattle.discount_factors.specs.Known.{Discounting}
-use Rattle.named_equations.specs.Instances.{instances}
-use Rattle.named_equations.specs.RegionFactors.{AreRegionFactors, places_of}
+use Rattle.row_book.proofs.Common.{List, sym, subst, Discounting, instances, AreRegionFactors, places_of}
 use Rattle.row_book.proofs.PlacesOfFactors.{factors-by_places, made-by_places, rows-by_places, stopped-by_places}
 use Rattle.row_book.proofs.RowsAddedLaws.{adds-made, alone}
 use Rattle.row_book.proofs.rows.all_rows.Goals as goal

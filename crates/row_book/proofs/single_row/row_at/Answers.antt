@@ -1,14 +1,6 @@
 -- What the row is of by the places of the factors, it is of by the places that are asked for.
-use Rattle.std.proofs.Common.{◌≡◌, ℕ, List, sym, subst}
+use Rattle.row_book.proofs.Common.{◌≡◌, ℕ, List, sym, subst, Discounting, stands_at, AreRegionFactors, IsNamedRow, IsStop, Place, row_fits, terms_at}
 use Rattle.std.specs.Prelude.{◌||◌, not, true, IfErr, IfOk, IfSome}
-use Rattle.discount_factors.specs.Known.{Discounting}
-use Rattle.named_equations.specs.Instances.{stands_at}
-use Rattle.named_equations.specs.RegionFactors.{AreRegionFactors}
-use Rattle.named_equations.specs.RowMeaning.{IsNamedRow}
-use Rattle.row_core.specs.Stops.{IsStop}
-use Rattle.row_core.specs.declared.place.Place.{Place}
-use Rattle.row_book.specs.Books.{row_fits}
-use Rattle.row_book.specs.EquationRows.{terms_at}
 use Rattle.row_book.proofs.PlacesOfFactors.{factors-by_places, places-known}
 use Rattle.row_book.proofs.single_row.row_at.Goals as goal
 

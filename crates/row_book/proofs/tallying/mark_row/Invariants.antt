@@ -1,8 +1,4 @@
-use Rattle.std.proofs.Common.{◌≡◌, ℕ, ◌<◌, ◌&&◌, ◌||◌, nat_eq, drop, length}
-use Rattle.std.specs.List.{list_any}
-use Rattle.row_core.specs.Contents.{contents_of}
-use Rattle.row_core.specs.Sources.{has_entry_of}
-use Rattle.row_book.specs.Tallies.{kind_room, marked}
+use Rattle.row_book.proofs.Common.{◌≡◌, ℕ, ◌<◌, ◌&&◌, ◌||◌, nat_eq, drop, length, list_any, contents_of, has_entry_of, kind_room, marked}
 use Rattle.row_book.proofs.tallying.mark_row.Given as goal
 
 -- with the entries that are left, what is marked is what was marked before and all entries of the row

@@ -1,7 +1,4 @@
-use Rattle.std.proofs.Common.{◌≡◌, ℕ, ◌<◌, ◌||◌, drop, length, map}
-use Rattle.row_core.specs.Contents.{contents_of}
-use Rattle.row_core.specs.Sources.{has_kind}
-use Rattle.row_book.specs.Tallies.{kind_room, marked}
+use Rattle.row_book.proofs.Common.{◌≡◌, ℕ, ◌<◌, ◌||◌, drop, length, map, contents_of, has_kind, kind_room, marked}
 use Rattle.row_book.proofs.tallying.mark_rows.Given as goal
 
 -- with the rows that are left, what is marked is what was marked before and all rows

@@ -1,5 +1,4 @@
-use Rattle.std.proofs.Common.{◌≡◌, ◌++◌, drop}
-use Rattle.row_core.specs.RowLists.{entry_variables}
+use Rattle.row_book.proofs.Common.{◌≡◌, ◌++◌, drop, entry_variables}
 use Rattle.row_book.proofs.variables.add_all_variables.Given as goal
 
 -- with the variables of the rows that are left, the variables so far are those from before and those of all rows

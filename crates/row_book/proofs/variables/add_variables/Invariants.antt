@@ -1,5 +1,4 @@
-use Rattle.std.proofs.Common.{◌≡◌, ◌++◌, drop}
-use Rattle.row_core.specs.Numbers.{variables_of}
+use Rattle.row_book.proofs.Common.{◌≡◌, ◌++◌, drop, variables_of}
 use Rattle.row_book.proofs.variables.add_variables.Given as goal
 
 -- with the variables of the entries that are left, the variables so far are those of the row

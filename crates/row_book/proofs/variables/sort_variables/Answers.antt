@@ -1,5 +1,4 @@
-use Rattle.std.proofs.Common.{◌∙◌}
-use Rattle.std.proofs.lemmas.List.Filters.{dedup_is}
+use Rattle.row_book.proofs.Common.{◌∙◌, dedup_is}
 use Rattle.row_core.specs.contracts.VarOrd.TheImpl.Laws.{matches_eq-law}
 use Rattle.row_book.proofs.VariablesInOrder.{permuted-twice, variables-sorted}
 use Rattle.row_book.proofs.variables.sort_variables.Goals as goal

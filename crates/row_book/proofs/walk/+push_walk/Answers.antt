@@ -1,9 +1,5 @@
 -- Value by value.
-use Rattle.std.proofs.Common.{◌≡◌, ℕ, ◌+◌, ◌-◌, ◌++◌, List, ap, sym, ◌∙◌}
-use Rattle.std.specs.List.{flat_map, range_with_len}
-use Rattle.row_core.specs.declared.Index.{Index}
-use Rattle.named_equations.specs.Instances.{subscripts_of}
-use Rattle.row_book.specs.Walks.{moved, walk}
+use Rattle.row_book.proofs.Common.{◌≡◌, ℕ, ◌+◌, ◌-◌, ◌++◌, List, ap, sym, ◌∙◌, flat_map, range_with_len, Index, subscripts_of, moved, walk}
 use Rattle.row_book.proofs.Ranges.{parts-more}
 use Rattle.row_book.proofs.walk.+push_walk.Goals as goal
 

@@ -1,7 +1,4 @@
-use Rattle.std.proofs.Common.{◌≡◌, ◌-◌, ◌++◌, length}
-use Rattle.std.specs.List.{flat_map, range_with_len}
-use Rattle.named_equations.specs.Instances.{subscripts_of}
-use Rattle.row_book.specs.Walks.{moved, walk}
+use Rattle.row_book.proofs.Common.{◌≡◌, ◌-◌, ◌++◌, length, flat_map, range_with_len, subscripts_of, moved, walk}
 use Rattle.row_book.proofs.walk.+push_walk.Given as goal
 
 abbrev pub decreases-push_walk : goal.decreases-push_walk

@@ -1,5 +1,4 @@
-use Rattle.std.proofs.Common.{sym}
-use Rattle.std.proofs.lemmas.Result.{IfOk-weaker}
+use Rattle.solve_command.proofs.Common.{sym, IfOk-weaker}
 use Rattle.solve_command.proofs.SecondEnds.{second-told}
 use Rattle.solve_command.proofs.second.answer_second.Goals as goal
 

@@ -1,8 +1,5 @@
 -- What guesses find is due by the rounded method, and what is due by the size by both.
-use Rattle.std.proofs.Common.{inl, inr, sym, subst}
-use Rattle.std.proofs.lemmas.Result.{IfOk-weaker}
-use Rattle.command_words.specs.declared.command.SolveMethod.{SolveMethod}
-use Rattle.solve_command.specs.Solve.{Finds}
+use Rattle.solve_command.proofs.Common.{inl, inr, sym, subst, IfOk-weaker, SolveMethod, Finds}
 use Rattle.solve_command.proofs.solve.answer_book.Goals as goal
 
 pub returns-in-Exact : goal.returns-in-Exact

@@ -1,5 +1,4 @@
-use Rattle.std.proofs.Common.{inl, inr}
-use Rattle.std.proofs.lemmas.Result.{IfOk-weaker}
+use Rattle.solve_command.proofs.Common.{inl, inr, IfOk-weaker}
 use Rattle.solve_command.proofs.SolvedEnds.{due-from_second, due-from_solution, due-from_stop, stop_comes}
 use Rattle.solve_command.proofs.solve.answer_exactly.Goals as goal
 

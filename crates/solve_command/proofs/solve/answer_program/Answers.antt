@@ -1,7 +1,4 @@
-use Rattle.std.proofs.Common.{inl, inr, sym, subst}
-use Rattle.std.proofs.lemmas.Result.{IfOk-weaker}
-use Rattle.command_words.specs.declared.command.SolveMethod.{SolveMethod}
-use Rattle.solve_command.specs.Solve.{DueBy}
+use Rattle.solve_command.proofs.Common.{inl, inr, sym, subst, IfOk-weaker, SolveMethod, DueBy}
 use Rattle.solve_command.proofs.solve.answer_program.Goals as goal
 
 pub returns-in-Some : goal.returns-in-Some

@@ -1,7 +1,5 @@
 -- Too large, or what is due where it isn't.
-use Rattle.std.proofs.Common.{inl, inr}
-use Rattle.std.proofs.lemmas.Result.{IfOk-weaker}
-use Rattle.command_answers.proofs.CheckedRows.{vars-are}
+use Rattle.solve_command.proofs.Common.{inl, inr, IfOk-weaker, vars-are}
 use Rattle.solve_command.proofs.solve.answer_sized.Goals as goal
 
 pub returns-in-Some : goal.returns-in-Some

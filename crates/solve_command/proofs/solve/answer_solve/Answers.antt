@@ -1,5 +1,4 @@
-use Rattle.std.proofs.Common.{inl, inr}
-use Rattle.std.proofs.lemmas.Result.{IfOk-weaker}
+use Rattle.solve_command.proofs.Common.{inl, inr, IfOk-weaker}
 use Rattle.solve_command.proofs.solve.answer_solve.Goals as goal
 
 pub answer_book-requires : goal.answer_book-requires

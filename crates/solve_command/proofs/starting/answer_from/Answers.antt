@@ -1,5 +1,4 @@
-use Rattle.std.proofs.Common.{inl, inr}
-use Rattle.std.proofs.lemmas.Result.{IfOk-weaker}
+use Rattle.solve_command.proofs.Common.{inl, inr, IfOk-weaker}
 use Rattle.solve_command.proofs.starting.answer_from.Goals as goal
 
 pub answer_start-requires : goal.answer_start-requires

@@ -1,15 +1,8 @@
 -- What the file tells over the variables of the book is what it tells over those that exist, and what is due of it is that.
-use Rattle.std.proofs.Common.{◌≡◌, ◌∙◌, IfOk, subst}
-use Rattle.std.specs.Prelude.{length}
-use Rattle.std.proofs.lemmas.Result.{IfOk-weaker}
-use Rattle.named_equations.specs.Existence.{all_variables}
+use Rattle.solve_command.proofs.Common.{◌≡◌, ◌∙◌, IfOk, subst, length, IfOk-weaker, all_variables, Refused, start_fault_line, NoStart, Start, Breaks}
 use Rattle.command_answers.specs.declared.status.Refusal.TheVariants.{StartFile}
-use Rattle.command_answers.specs.declared.status.Status.TheVariants.{Refused}
-use Rattle.command_answers.specs.Lines.{start_fault_line}
 use Rattle.command_answers.proofs.PlanCosts.{all-of}
-use Rattle.solver_answers.specs.declared.answer.Answer.TheVariants.{NoStart, Start}
 use Rattle.solver_answers.specs.Answers.{IsAnswerTo, IsFailOfText, Tells}
-use Rattle.solver_answers.specs.Told.{Breaks}
 use Rattle.solve_command.proofs.StartLaws.{gives-due, lacks-due}
 use Rattle.solve_command.proofs.starting.answer_start.Goals as goal
 

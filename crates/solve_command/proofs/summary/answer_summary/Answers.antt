@@ -1,5 +1,4 @@
-use Rattle.std.proofs.Common.{inl, inr}
-use Rattle.std.proofs.lemmas.Result.{IfOk-weaker}
+use Rattle.solve_command.proofs.Common.{inl, inr, IfOk-weaker}
 use Rattle.solve_command.proofs.summary.answer_summary.Goals as goal
 
 pub summarize_book-requires : goal.summarize_book-requires

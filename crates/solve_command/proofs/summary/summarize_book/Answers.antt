@@ -1,5 +1,4 @@
-use Rattle.std.proofs.Common.{◌∙◌, ◌++◌, ap₂}
-use Rattle.command_answers.proofs.CheckedRows.{vars-are}
+use Rattle.solve_command.proofs.Common.{◌∙◌, ◌++◌, ap₂, vars-are}
 use Rattle.solve_command.proofs.summary.summarize_book.Goals as goal
 
 pub returns : goal.returns

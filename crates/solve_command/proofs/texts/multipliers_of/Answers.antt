@@ -1,5 +1,4 @@
-use Rattle.std.proofs.Common.{inl, inr}
-use Rattle.command_answers.proofs.BookPlaces.{multipliers-named}
+use Rattle.solve_command.proofs.Common.{inl, inr, multipliers-named}
 use Rattle.solve_command.proofs.texts.multipliers_of.Goals as goal
 
 pub multiplier_text-requires : goal.multiplier_text-requires

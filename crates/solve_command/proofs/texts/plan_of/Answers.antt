@@ -1,5 +1,4 @@
-use Rattle.std.proofs.Common.{inl, inr}
-use Rattle.command_answers.proofs.BookPlaces.{plan-named}
+use Rattle.solve_command.proofs.Common.{inl, inr, plan-named}
 use Rattle.solve_command.proofs.texts.plan_of.Goals as goal
 
 pub plan_text-requires : goal.plan_text-requires

@@ -1,5 +1,4 @@
-use Rattle.std.proofs.lemmas.Result.{IfOk-weaker}
-use Rattle.command_answers.proofs.BookPlaces.{plan-named}
+use Rattle.solve_command.proofs.Common.{IfOk-weaker, plan-named}
 use Rattle.solve_command.proofs.texts.report_of.Goals as goal
 
 pub unbounded_report-requires : goal.unbounded_report-requires

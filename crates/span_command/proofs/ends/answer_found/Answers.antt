@@ -1,5 +1,4 @@
-use Rattle.exact_num.specs.Value.{value_of}
-use Rattle.command_answers.proofs.BookPlaces.{plan-named}
+use Rattle.span_command.proofs.Common.{value_of, plan-named}
 use Rattle.span_command.proofs.BuiltCapacities.{direction-named}
 use Rattle.span_command.proofs.ends.answer_found.Goals as goal
 

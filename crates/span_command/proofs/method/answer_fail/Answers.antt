@@ -1,5 +1,4 @@
-use Rattle.std.proofs.lemmas.Result.{IfOk-weaker}
-use Rattle.exact_num.specs.Value.{value_of}
+use Rattle.span_command.proofs.Common.{IfOk-weaker, value_of}
 use Rattle.span_command.proofs.SpanPlaces.{stop-limited}
 use Rattle.span_command.proofs.method.answer_fail.Goals as goal
 

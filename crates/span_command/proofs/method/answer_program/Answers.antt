@@ -1,7 +1,4 @@
-use Rattle.std.proofs.Common.{inl, inr, sym, subst}
-use Rattle.std.proofs.lemmas.Result.{IfOk-weaker}
-use Rattle.command_words.specs.declared.command.SolveMethod.{SolveMethod}
-use Rattle.span_command.specs.Span.{DueBy}
+use Rattle.span_command.proofs.Common.{inl, inr, sym, subst, IfOk-weaker, SolveMethod, DueBy}
 use Rattle.span_command.proofs.method.answer_program.Goals as goal
 
 pub returns-in-Exact : goal.returns-in-Exact

@@ -1,5 +1,4 @@
-use Rattle.std.proofs.Common.{inl, inr}
-use Rattle.std.proofs.lemmas.Result.{IfOk-weaker}
+use Rattle.span_command.proofs.Common.{inl, inr, IfOk-weaker}
 use Rattle.span_command.proofs.BuiltCapacities.{rows-below}
 use Rattle.span_command.proofs.method.answer_within.Goals as goal
 

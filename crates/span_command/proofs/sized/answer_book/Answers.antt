@@ -1,7 +1,5 @@
 -- Too large, or what is due where it isn't.
-use Rattle.std.proofs.lemmas.Result.{IfOk-weaker}
-use Rattle.command_answers.proofs.MadeBooks.{within-due}
-use Rattle.span_command.specs.Span.{DueForMethod, Finds}
+use Rattle.span_command.proofs.Common.{IfOk-weaker, within-due, DueForMethod, Finds}
 use Rattle.span_command.proofs.sized.answer_book.Goals as goal
 
 pub answer_large-requires-clause-large : goal.answer_large-requires-clause-large

@@ -1,8 +1,5 @@
 -- What guesses find, or that it is too large.
-use Rattle.std.proofs.Common.{inl, sym, subst}
-use Rattle.command_words.specs.declared.command.SolveMethod.{SolveMethod}
-use Rattle.command_answers.proofs.MadeBooks.{large-due}
-use Rattle.span_command.specs.Span.{DueForMethod, Finds}
+use Rattle.span_command.proofs.Common.{inl, sym, subst, SolveMethod, large-due, DueForMethod, Finds}
 use Rattle.span_command.proofs.sized.answer_large.Goals as goal
 
 pub returns-in-Exact : goal.returns-in-Exact

@@ -1,7 +1,4 @@
-use Rattle.std.proofs.Common.{inr}
-use Rattle.std.proofs.lemmas.Result.{IfOk-weaker}
-use Rattle.command_answers.proofs.MadeBooks.{program-due}
-use Rattle.span_command.specs.Span.{DueForRows}
+use Rattle.span_command.proofs.Common.{inr, IfOk-weaker, program-due, DueForRows}
 use Rattle.span_command.proofs.span.answer_member.Goals as goal
 
 pub answer_book-requires-clause-listed : goal.answer_book-requires-clause-listed

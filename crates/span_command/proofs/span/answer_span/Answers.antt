@@ -1,6 +1,5 @@
 -- All three words are members.
-use Rattle.std.proofs.Common.{inr}
-use Rattle.std.proofs.lemmas.Result.{IfOk-weaker}
+use Rattle.span_command.proofs.Common.{inr, IfOk-weaker}
 use Rattle.span_command.proofs.span.answer_span.Goals as goal
 
 pub returns : goal.returns

@@ -1,9 +1,5 @@
-use Rattle.std.proofs.Common.{◌≡◌, ℕ, List, ◌++◌, ◌∙◌, ap, codes, Result, Ok, Err}
-use Rattle.std.specs.Prelude.{OnOk, is_ok, if◌then◌else◌}
-use Rattle.std.proofs.lemmas.Result.{on_ok_weaker}
+use Rattle.span_command.proofs.Common.{◌≡◌, ℕ, List, ◌++◌, ◌∙◌, ap, codes, Result, Ok, Err, OnOk, is_ok, if◌then◌else◌, on_ok_weaker, end_line, chosen_table}
 use Rattle.std.proofs.lemmas.List.{append_assoc}
-use Rattle.result_tables.specs.Reports.{end_line}
-use Rattle.span_command.specs.SpanTexts.{chosen_table}
 use Rattle.span_command.proofs.texts.push_last.Goals as goal
 
 -- what is appended, where there is memory for it

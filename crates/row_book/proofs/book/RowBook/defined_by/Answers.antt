@@ -1,8 +1,5 @@
 -- The row that is read stands at its position among the rows that the book keeps.
-use Rattle.std.proofs.Common.{◌<◌, length, sym, subst}
-use Rattle.std.specs.Prelude.{IfSome}
-use Rattle.row_book.specs.Books.{Book}
-use Rattle.row_book.specs.Kept.{IsDefinedAt}
+use Rattle.row_book.proofs.Common.{◌<◌, length, sym, subst, IfSome, Book, IsDefinedAt}
 use Rattle.row_book.proofs.KeptLaws.{at-index, defined-at}
 use Rattle.row_book.proofs.book.RowBook.defined_by.Goals as goal
 

@@ -1,6 +1,4 @@
-use Rattle.std.proofs.Common.{subst}
-use Rattle.row_core.proofs.Members.{Contains-from_Has}
-use Rattle.row_core.specs.RowLists.{AreVariablesOf, entry_variables}
+use Rattle.row_book.proofs.Common.{subst, Contains-from_Has, AreVariablesOf, entry_variables}
 use Rattle.row_book.proofs.Columns.{all-stand}
 use Rattle.row_book.proofs.KeptLaws.{made-book}
 use Rattle.row_book.proofs.Within.{rows-within, stopped-within, variables-exist, variables-within}

@@ -1,10 +1,5 @@
 -- The twin's position is one of the rows that the book keeps, and the row is put there.
-use Rattle.std.proofs.Common.{◌<◌, List, length, subst}
-use Rattle.std.specs.Prelude.{slice_set}
-use Rattle.row_core.specs.declared.Row.{Row}
-use Rattle.row_book.specs.Books.{Book}
-use Rattle.row_book.specs.Definitions.{IsAt}
-use Rattle.row_book.specs.Replaced.{AreTwins, IsReplaced}
+use Rattle.row_book.proofs.Common.{◌<◌, List, length, subst, slice_set, Row, Book, IsAt, AreTwins, IsReplaced}
 use Rattle.row_book.proofs.ReplacedLaws.{replaced-at, replaced-book}
 use Rattle.row_book.proofs.book.RowBook.replace.Goals as goal
 

@@ -1,11 +1,4 @@
-use Rattle.std.proofs.Common.{◌≡◌, ◌∙◌, ◌<◌, List, length, sym, subst, arith}
-use Rattle.std.specs.Prelude.{IfSome, slice_index_or}
-use Rattle.discount_factors.specs.Known.{Discounting}
-use Rattle.named_equations.specs.RegionFactors.{AreRegionFactors, places_of}
-use Rattle.row_book.specs.Feeds.{all_contents, equation_contents}
-use Rattle.row_book.specs.Tallies.{AreTallied}
-use Rattle.row_book.specs.declared.held_rows.HeldRows.{HeldRows}
-use Rattle.row_book.specs.declared.tally.Tally.{Tally}
+use Rattle.row_book.proofs.Common.{◌≡◌, ◌∙◌, ◌<◌, List, length, sym, subst, arith, IfSome, slice_index_or, Discounting, AreRegionFactors, places_of, all_contents, equation_contents, AreTallied, HeldRows, Tally}
 use Rattle.row_book.proofs.FeedLaws.{at-start, contents-within, equation-ahead, feed-contents, feed-kept, feed-made, feed-within, in-order}
 use Rattle.row_book.proofs.HeldVariables.{found-sorted}
 use Rattle.row_book.proofs.PlacesOfFactors.{factors-by_places, stopped-by_places}

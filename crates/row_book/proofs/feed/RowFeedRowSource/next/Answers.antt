@@ -1,14 +1,4 @@
-use Rattle.std.proofs.Common.{◌≡◌, ◌<◌, ◌∙◌, ◌+◌, ℕ, Bool, List, [], Option, drop, length, map, ap, sym, subst, true}
-use Rattle.std.specs.List.{enumerate_from}
-use Rattle.std.specs.Prelude.{IfSome, slice_index_or}
-use Rattle.discount_factors.specs.Known.{Discounting}
-use Rattle.row_core.specs.declared.Row.{Row}
-use Rattle.named_equations.specs.Instances.{instances}
-use Rattle.named_equations.specs.RegionFactors.{places_of}
-use Rattle.row_core.specs.Contents.{RowContents, contents_of}
-use Rattle.row_book.specs.Books.{CanBeMade}
-use Rattle.row_book.specs.Feeds.{ahead_after, ahead_at, equation_contents}
-use Rattle.row_book.specs.declared.held_rows.HeldRows.{HeldRows}
+use Rattle.row_book.proofs.Common.{◌≡◌, ◌<◌, ◌∙◌, ◌+◌, ℕ, Bool, List, [], Option, drop, length, map, ap, sym, subst, true, enumerate_from, IfSome, slice_index_or, Discounting, Row, instances, places_of, RowContents, contents_of, CanBeMade, ahead_after, ahead_at, equation_contents, HeldRows}
 use Rattle.row_book.proofs.FeedLaws.{answers-same, both-stay, held-say}
 use Rattle.row_book.proofs.feed.RowFeedRowSource.next.Goals as goal
 use Rattle.row_book.proofs.feed.RowFeedRowSource.next.Goals.{After-next_copy}

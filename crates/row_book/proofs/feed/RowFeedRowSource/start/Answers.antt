@@ -1,9 +1,4 @@
-use Rattle.std.proofs.Common.{◌≡◌, ◌<◌, ◌∙◌, ℕ, List, false, ap, length, subst, arith}
-use Rattle.std.specs.Prelude.{IfSome, slice_index_or}
-use Rattle.named_equations.specs.RegionFactors.{places_of}
-use Rattle.row_core.specs.Sources.{rows_of_equation}
-use Rattle.row_book.specs.Feeds.{ahead_after, equation_contents}
-use Rattle.row_book.specs.declared.held_rows.HeldRows.{HeldRows}
+use Rattle.row_book.proofs.Common.{◌≡◌, ◌<◌, ◌∙◌, ℕ, List, false, ap, length, subst, arith, IfSome, slice_index_or, places_of, rows_of_equation, ahead_after, equation_contents, HeldRows}
 use Rattle.row_book.proofs.FeedLaws.{ahead-starts, at-start}
 use Rattle.row_book.proofs.feed.RowFeedRowSource.start.Goals as goal
 

@@ -1,6 +1,5 @@
-use Rattle.std.proofs.Common.{◌≡◌, length, refl, sym, ap, ◌∙◌, arith}
+use Rattle.row_book.proofs.Common.{◌≡◌, length, refl, sym, ap, ◌∙◌, arith, places_of}
 use Rattle.std.specs.Option.{is_some}
-use Rattle.named_equations.specs.RegionFactors.{places_of}
 use Rattle.row_book.proofs.RowsAddedLaws.{adds-one, nothing-listed, stops-many, stops-wide}
 use Rattle.row_book.proofs.made_rows.MadeRows.add.Goals as goal
 

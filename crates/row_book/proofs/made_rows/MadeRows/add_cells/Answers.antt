@@ -1,6 +1,4 @@
-use Rattle.row_core.specs.declared.Index.{Index}
-use Rattle.named_equations.specs.RegionFactors.{places_of}
-use Rattle.row_book.specs.Walks.{instance_at, joined}
+use Rattle.row_book.proofs.Common.{Index, places_of, instance_at, joined}
 use Rattle.row_book.proofs.Places.{all-at_place}
 use Rattle.row_book.proofs.Regions.{IsIndex}
 use Rattle.row_book.proofs.RowsAddedLaws.{loop-adds, loop-ends, loop-stops}

@@ -1,7 +1,4 @@
-use Rattle.std.proofs.Common.{take}
-use Rattle.named_equations.specs.RegionFactors.{places_of}
-use Rattle.row_book.specs.RowsAdded.{AddsRows}
-use Rattle.row_book.specs.Walks.{instances_with}
+use Rattle.row_book.proofs.Common.{take, places_of, AddsRows, instances_with}
 use Rattle.row_book.proofs.made_rows.MadeRows.add_cells.Given as goal
 
 -- the rows of the inner subscripts so far were added

@@ -1,12 +1,5 @@
-use Rattle.std.proofs.Common.{◌≡◌, ◌<◌, ◌+◌, ◌-◌, ap, sym, subst, length, ◌∙◌, arith}
-use Rattle.std.specs.List.{flat_map, range_with_len}
-use Rattle.model_sets.specs.Members.{members}
+use Rattle.row_book.proofs.Common.{◌≡◌, ◌<◌, ◌+◌, ◌-◌, ap, sym, subst, length, ◌∙◌, arith, flat_map, range_with_len, members, count_of, places_of, HasStopped, AddsRows, instances_in}
 use Rattle.model_sets.specs.Names as sets
-use Rattle.named_equations.specs.Positions.{count_of}
-use Rattle.named_equations.specs.RegionFactors.{places_of}
-use Rattle.row_book.specs.Books.{HasStopped}
-use Rattle.row_book.specs.RowsAdded.{AddsRows}
-use Rattle.row_book.specs.Walks.{instances_in}
 use Rattle.row_book.proofs.Regions.{instances-regions}
 use Rattle.row_book.proofs.RowsAddedLaws.{adds-nothing, range-adds, range-stops}
 use Rattle.row_book.proofs.made_rows.MadeRows.add_equation.Goals as goal

@@ -1,8 +1,4 @@
-use Rattle.std.proofs.Common.{◌-◌}
-use Rattle.std.specs.List.{flat_map, range_with_len}
-use Rattle.named_equations.specs.RegionFactors.{places_of}
-use Rattle.row_book.specs.RowsAdded.{AddsRows}
-use Rattle.row_book.specs.Walks.{instances_in}
+use Rattle.row_book.proofs.Common.{◌-◌, flat_map, range_with_len, places_of, AddsRows, instances_in}
 use Rattle.row_book.proofs.made_rows.MadeRows.add_equation.Given as goal
 
 -- the rows of the regions so far were added

@@ -1,8 +1,4 @@
-use Rattle.std.proofs.Common.{◌-◌, ◌≤◌}
-use Rattle.std.specs.List.{flat_map, range_with_len}
-use Rattle.named_equations.specs.Instances.{instances_of}
-use Rattle.named_equations.specs.RegionFactors.{places_of}
-use Rattle.row_book.specs.RowsAdded.{AddsRows}
+use Rattle.row_book.proofs.Common.{◌-◌, ◌≤◌, flat_map, range_with_len, instances_of, places_of, AddsRows}
 use Rattle.row_book.proofs.made_rows.MadeRows.add_equations.Given as goal
 
 -- the rows of the equations so far were added

@@ -1,11 +1,4 @@
-use Rattle.std.proofs.Common.{◌∙◌, ◌+◌, ◌<◌, suc, drop, take, get_or, sym, subst, arith}
-use Rattle.std.specs.List.{flat_map}
-use Rattle.row_core.specs.declared.Index.{Index}
-use Rattle.named_equations.specs.Indices.{at_r}
-use Rattle.named_equations.specs.RegionFactors.{places_of}
-use Rattle.row_book.specs.Books.{HasStopped, entry_limit}
-use Rattle.row_book.specs.RowsAdded.{AddsRows}
-use Rattle.row_book.specs.Walks.{AreFirstAsked, inners_of, instances_with}
+use Rattle.row_book.proofs.Common.{◌∙◌, ◌+◌, ◌<◌, suc, drop, take, get_or, sym, subst, arith, flat_map, Index, at_r, places_of, HasStopped, entry_limit, AddsRows, AreFirstAsked, inners_of, instances_with}
 use Rattle.row_book.proofs.Places.{list-middle}
 use Rattle.row_book.proofs.RowsAddedLaws.{adds-nothing, loop-adds, loop-ends, loop-stops}
 use Rattle.row_book.proofs.RowsOfCells.{first-adds, first-stops, first-within}

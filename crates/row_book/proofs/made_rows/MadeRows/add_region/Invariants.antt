@@ -1,8 +1,4 @@
-use Rattle.std.proofs.Common.{◌≡◌, take}
-use Rattle.std.specs.List.{flat_map}
-use Rattle.named_equations.specs.RegionFactors.{places_of}
-use Rattle.row_book.specs.RowsAdded.{AddsRows}
-use Rattle.row_book.specs.Walks.{inners_of, instances_with, outers_of}
+use Rattle.row_book.proofs.Common.{◌≡◌, take, flat_map, places_of, AddsRows, inners_of, instances_with, outers_of}
 use Rattle.row_book.proofs.made_rows.MadeRows.add_region.Given as goal
 
 -- the rows of the outer subscripts so far were added

@@ -1,16 +1,4 @@
-use Rattle.std.proofs.Common.{◌≤◌, ◌+◌, ◌∙◌, ◌++◌, List, length, map, ap, ap₂, sym, subst}
-use Rattle.std.specs.List.{AllByRecursion}
-use Rattle.row_core.specs.declared.Row.{Row}
-use Rattle.row_core.specs.declared.Var.{Var}
-use Rattle.named_equations.specs.Instances.{instances_of}
-use Rattle.named_equations.specs.RegionFactors.{places_of}
-use Rattle.row_core.specs.Contents.{contents_of}
-use Rattle.row_core.specs.Sources.{has_kind}
-use Rattle.row_core.specs.RowLists.{entry_variables}
-use Rattle.row_book.specs.Held.{KeepsRows, held_variables}
-use Rattle.row_book.specs.Tallies.{AreSameVariables, MarksMore}
-use Rattle.row_book.specs.declared.held_rows.HeldRows.{HeldRows}
-use Rattle.row_book.specs.declared.tally.Tally.{Tally}
+use Rattle.row_book.proofs.Common.{◌≤◌, ◌+◌, ◌∙◌, ◌++◌, List, length, map, ap, ap₂, sym, subst, AllByRecursion, Row, Var, instances_of, places_of, contents_of, has_kind, entry_variables, KeepsRows, held_variables, AreSameVariables, MarksMore, HeldRows, Tally}
 use Rattle.row_book.proofs.RowsAddedLaws.{alone}
 use Rattle.row_book.proofs.TallyLaws.{instances-named, named-so}
 use Rattle.row_book.proofs.tally.Tally.add_equation.Goals as goal

@@ -1,6 +1,4 @@
-use Rattle.std.proofs.Common.{◌≡◌, ℕ, ◌-◌, ◌<◌, ◌≤◌, subst, arith}
-use Rattle.named_equations.specs.RegionFactors.{places_of}
-use Rattle.row_book.specs.Tallies.{AreTallied}
+use Rattle.row_book.proofs.Common.{◌≡◌, ℕ, ◌-◌, ◌<◌, ◌≤◌, subst, arith, places_of, AreTallied}
 use Rattle.row_book.proofs.TallyLaws.{tally-more, tally-stops}
 use Rattle.row_book.proofs.tally.Tally.add_equations.Goals as goal
 

@@ -1,6 +1,4 @@
-use Rattle.std.proofs.Common.{◌≤◌, ◌-◌}
-use Rattle.named_equations.specs.RegionFactors.{places_of}
-use Rattle.row_book.specs.Tallies.{AreTallied}
+use Rattle.row_book.proofs.Common.{◌≤◌, ◌-◌, places_of, AreTallied}
 use Rattle.row_book.proofs.tally.Tally.add_equations.Given as goal
 
 -- the rows of the equations so far were looked at
