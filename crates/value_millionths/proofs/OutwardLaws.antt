@@ -1,5 +1,5 @@
 -- A value rounded down isn't above it, and one rounded up isn't below it.
-use Rattle.std.proofs.Common.{◌≡◌, ◌≢◌, ◌<◌, ◌≤◌, ◌*◌, ◌^◌, ℤ, pos, negsuc, ◌+ℤ◌, ◌-ℤ◌, ◌*ℤ◌, ◌<ℤ◌, ◌≤ℤ◌, neg_ℤ, nat_lt, Bool, true, false, Option, Some, None, refl, ap, sym, subst, ◌∙◌, ◌⊎◌, arith, if◌then◌else◌}
+use Rattle.std.proofs.Common.{◌≡◌, ◌≢◌, ◌<◌, ◌≤◌, ◌*◌, ◌^◌, ℤ, pos, negsuc, ◌+ℤ◌, ◌-ℤ◌, ◌*ℤ◌, ◌<ℤ◌, ◌≤ℤ◌, neg_ℤ, nat_lt, Bool, true, false, Option, Some, None, refl, ap, sym, subst, ◌∙◌, inl, inr, ◌⊎◌, arith, if◌then◌else◌}
 use Rattle.std.specs.Prelude.{unsigned_abs, FitsSigned, IsTrue, ◌↔◌}
 use Rattle.std.specs.Int.{w128}
 use Rattle.std.specs.Int.Signed.{mag}
@@ -181,6 +181,15 @@ fits-not b z fits h = by (in_range z) refl
 pub fits-signed : (z : ℤ) → mag z < 2 ^ 127 → FitsSigned w128 z
 fits-signed (pos n) h = let below : n < 2 ^ 127 = h in omega (arith, ints)
 fits-signed (negsuc n) h = let below : n < 2 ^ 127 = h in omega (arith, ints)
+
+-- an order that isn't one of three
+pub is-gt-of : (o : Ordering) → (o ≡ Less) ⊎ (o ≡ Equal) → is_gt o ≡ false
+is-gt-of o (inl h) = ap is_gt h
+is-gt-of o (inr h) = ap is_gt h
+
+pub is-lt-of : (o : Ordering) → (o ≡ Equal) ⊎ (o ≡ Greater) → is_lt o ≡ false
+is-lt-of o (inl h) = ap is_lt h
+is-lt-of o (inr h) = ap is_lt h
 
 module _ (x : Rational) (n : ℤ) where
   pub lowered-none : in_range n ≡ false → None ≡ lowered x n
