@@ -1,5 +1,5 @@
 -- From the verdicts of the checks over a book of rows to what they come to over the named equations.
-use Rattle.check_command.proofs.Common.{inr, inl, ◌⊎◌, ◌≡◌, ℕ, ℤ, pos, List, [], ◌∷◌, ◌++◌, Option, Some, None, ap, ap₂, sym, ◌∙◌, subst, refl, Rational, minus, value_of, Data, Row, RowName, Var, Place, var_cmp, value_in, all_variables, Rejection, BoundsAll, Condition, AllPass, FailsFor, IsWideAt, first_failing, steps, cost_of, cost_value, model_cost, AreOverSome, Within, gap_condition, bound_conditions, plan_conditions, Reason, reason_of, fails_before, passed_first, passes_all, wide_before, Accepted, Rejected, Wide, multiplier_bound, plan_cost, AreFeasible, AreNotFeasible, BoundsFeasible, IsBookOf, IsCheckedBound, IsCheckedPlan, IsOutcome, are-feasible, bounds-feasible, rows-from_feasible, vars-are}
+use Rattle.check_command.proofs.Common.{inr, inl, ◌⊎◌, ◌≡◌, ℕ, ℤ, pos, List, [], ◌∷◌, ◌++◌, Option, Some, None, ap, ap₂, sym, ◌∙◌, subst, refl, Rational, minus, value_of, Data, Row, RowName, Var, Place, var_cmp, value_in, all_variables, Rejection, BoundsAll, Condition, AllPass, FailsFor, IsWideAt, first_failing, steps, cost_of, cost_value, model_cost, AreOverSome, Within, gap_condition, bound_conditions, plan_conditions, Reason, reason_of, fails_before, passed_first, passes_all, wide_before, Accepted, Rejected, Wide, check_conditions, multiplier_bound, plan_cost, AreFeasible, AreNotFeasible, BoundsFeasible, IsBookOf, IsCheckedBound, IsCheckedPlan, IsOutcome, are-feasible, bounds-feasible, rows-from_feasible, vars-are}
 use Rattle.exact_num.specs.Steps.{first_wide}
 use Rattle.exact_num.specs.declared.fraction.Frac.{Frac}
 use Rattle.row_core.specs.Values.{IsOver}
@@ -77,6 +77,17 @@ of_bound d rows multipliers = bound_conditions model_cost rows (all_variables d)
 abbrev pub of_gap : Data → List Row → List (Var × Rational) → List (RowName × Rational) → ℕ → List Condition
 of_gap d rows plan multipliers gap = gap_condition (plan_cost d plan) (multiplier_bound rows multipliers) gap ∷ []
 
+-- the plan's are the first
+pub plan-fails : (d : Data) (rows : List Row) (plan : List (Var × Rational)) (multipliers : Option (List (RowName × Rational))) (gap : ℕ) (reason : Reason)
+    → FailsFor (of_plan d rows plan) reason → FailsFor (check_conditions d rows plan multipliers gap) reason
+plan-fails d rows plan None gap reason h = h
+plan-fails d rows plan (Some multipliers) gap reason h = fails-first (of_plan d rows plan) (of_bound d rows multipliers ++ of_gap d rows plan multipliers gap) reason h
+
+pub plan-wide : (d : Data) (rows : List Row) (plan : List (Var × Rational)) (multipliers : Option (List (RowName × Rational))) (gap : ℕ) (place : Place)
+    → IsWideAt (of_plan d rows plan) place → IsWideAt (check_conditions d rows plan multipliers gap) place
+plan-wide d rows plan None gap place h = h
+plan-wide d rows plan (Some multipliers) gap place h = wide_before (of_plan d rows plan) (of_bound d rows multipliers ++ of_gap d rows plan multipliers gap) place h
+
 module _ (places : ℕ) (d : Data) (rows : List Row) (plan : List (Var × Rational)) (cost : Rational) (checked : IsCheckedPlan places d rows plan cost) (multipliers : List (RowName × Rational)) (gap : ℕ) where
   abbrev later : List Condition
   later = of_bound d rows multipliers ++ of_gap d rows plan multipliers gap
@@ -122,3 +133,8 @@ module _ (places : ℕ) (d : Data) (rows : List Row) (plan : List (Var × Ration
       amount_is ∙ checked.cost_is,
       (found_is ∙ bounded.bound_is, gap_is ∙ ap₂ minus checked.cost_is bounded.bound_is),
     )
+
+-- without multipliers, the plan's conditions are all
+pub plan-passes : (places : ℕ) (d : Data) (rows : List Row) (plan : List (Var × Rational)) (gap : ℕ) (amount : Frac) → IsCheckedPlan places d rows plan (value_of amount)
+    → IsOutcome places d rows plan None gap (Accepted amount None)
+plan-passes places d rows plan gap amount checked = (checked.pass, checked.feasible, tt, checked.cost_is, tt)
