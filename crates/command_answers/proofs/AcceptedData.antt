@@ -1,12 +1,17 @@
 -- Accepted data are complete: their sets keep the rules, and each used parameter has a value in its range at each of its indices.
-use Rattle.mps_plans.proofs.Common.{◌≡◌, ℕ, zero, suc, ◌+◌, ◌-◌, ◌<◌, ◌≤◌, false, List, [], ◌∷◌, ◌++◌, length, get_or, take, Option, Some, None, refl, sym, ◌∙◌, subst, arith, take_all, option_map, AllByRecursion, IsDistinct, cons_option, flat_map, range_with_len, take_more, get_or-range_with_len, IsSet, limit_of, set_count, Blocks, Says, Data, data_told, set_lists, AreComplete, Accepted}
+use Rattle.std.proofs.Common.{◌≡◌, ℕ, zero, suc, ◌+◌, ◌-◌, ◌<◌, ◌≤◌, false, List, [], ◌∷◌, ◌++◌, length, get_or, take, Option, Some, None, refl, sym, ◌∙◌, subst, arith, take_all}
+use Rattle.std.specs.Option.{option_map}
+use Rattle.std.specs.List.{AllByRecursion, IsDistinct, cons_option, flat_map, range_with_len}
+use Rattle.command_answers.proofs.Common.{take_more, Blocks, Says, Data, data_told, set_lists, first_refusal, fault_in, first_set_refusal, member_refusals, only, refusal_after, Accepted}
+use Rattle.std.proofs.lemmas.List.FromFn.{get_or-range_with_len}
 use Rattle.std.proofs.lemmas.Cmp.{nat_list_eq_equiv}
 use Rattle.std.proofs.lemmas.Map.Keys.{IsDistinct-push}
 use Rattle.model_sets.specs.Members.{AreSets, KeepsRules, SetLists, first_refusal as member_refusal, is_among, members, no_members}
+use Rattle.model_sets.specs.Names.{IsSet, limit_of, set_count}
 use Rattle.model_sets.proofs.SetLaws.{IsTaken, appended_keeps, taken}
 use Rattle.mathprog_data.proofs.ReadingLaws.{says_well}
+use Rattle.param_tables.specs.Built.{AreComplete}
 use Rattle.param_tables.specs.InTurn.{first_of}
-use Rattle.command_answers.proofs.Common.{first_refusal, fault_in, first_set_refusal, member_refusals, only, refusal_after}
 use Rattle.param_tables.proofs.KeptLaws.{complete_canonical, complete_of, values_are_numbers}
 use Rattle.param_tables.proofs.SetLaws.{members-set}
 use Rattle.param_tables.proofs.TurnLaws.{in_turn_from, in_turn_more}
