@@ -33,6 +33,7 @@ FILES = [
     ("no capacity factor", "param CapacityFactor default 1", "param CapacityFactor", "NoValue", "default 1"),
     ("no availability", "param AvailabilityFactor default 1", "param AvailabilityFactor", "NoValue", "default 1"),
     ("no unit of activity", "param CapacityToActivityUnit default 1", "param CapacityToActivityUnit", "NoValue", "default 1"),
+    ("no ratio", "param InputActivityRatio default 0", "param InputActivityRatio", "NoValue", "default 0"),
     ("no greatest capacity", "param TotalAnnualMaxCapacity default -1", "param TotalAnnualMaxCapacity", "NoValue", "default -1"),
     ("no limit on emissions", "set EMISSION :=", "set EMISSION := CO2", None, ""),
     ("no life", "param OperationalLife default 1", "param OperationalLife", "NoValue", "its life in years"),
