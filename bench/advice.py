@@ -53,6 +53,8 @@ def run(*words):
     exact = subprocess.run([PROGRAM, *words], cwd=WORK, stdin=subprocess.DEVNULL, stdout=subprocess.PIPE)
     told = ran.stderr.decode("utf-8", "replace")
     faults = [] if (ran.returncode, ran.stdout) == (exact.returncode, exact.stdout) else ["status or standard output differ from the program's"]
+    if f"{TOP}/osemosys: line" in told:
+        faults.append(f"a fault of the script: {told!r}")
     return ran.returncode, ran.stdout.decode("utf-8", "replace"), told, faults
 
 
@@ -101,6 +103,9 @@ def try_answers():
         (("curve", base, "NOWHERE", "CO2", "4"), 4, "write the member as the data file names it"),
         (("compare", real, "proof.csv", "model.dat", "proof.csv", "--gap", "10"), 4, "model.dat:"),
         (("nothing",), 5, "help COMMAND"),
+        ((), 5, "help COMMAND"),
+        (("",), 5, "help COMMAND"),
+        (("make", "3", "--show", "summary"), 0, ""),
     ]
     with open(f"{WORK}/model.dat", "w", encoding="utf-8") as file:
         file.write("set YEAR @ ;\n")
@@ -108,7 +113,7 @@ def try_answers():
         ended, line, told, faults = run(*words)
         if ended != status or (wanted not in told if wanted else told):
             faults.append(f"status {ended}, it prints {line[:80]!r} and tells {told!r}")
-        yield " ".join(words[:1] + words[2:]), faults
+        yield f"the words {words}", faults
 
 
 def main():

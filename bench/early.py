@@ -25,10 +25,11 @@ def random_words(source):
 
 
 def answer(program, words, folder):
-    """Its status and what it wrote; without `rt`, so that nothing is built."""
-    ran = subprocess.run([program, *words], cwd=folder, stdin=subprocess.DEVNULL, stdout=subprocess.PIPE, stderr=subprocess.DEVNULL,
+    """Its status and what it wrote; without `rt`, so that nothing is built. On standard error it has lines of its own alone."""
+    ran = subprocess.run([program, *words], cwd=folder, stdin=subprocess.DEVNULL, stdout=subprocess.PIPE, stderr=subprocess.PIPE,
                          env={"PATH": "/usr/bin:/bin"}, timeout=300)
-    return ran.returncode, ran.stdout
+    is_own = all(line.startswith(b"osemosys: ") for line in ran.stderr.splitlines())
+    return ran.returncode, ran.stdout if is_own else ran.stderr
 
 
 def try_words(script, program, folder, count):
