@@ -60,9 +60,9 @@ build_over() {
     fi
 }
 
-# Builds `osemosys` where it isn't built or is older than its sources. Afterwards `program` is its file.
+# Builds `osemosys` where it isn't built from its sources. Afterwards `program` is its file.
 build_osemosys() {
-    if [ -n "$("$top/osemosys" nothing 2>/dev/null </dev/null)" ]; then
+    if "$top/osemosys" warn "$top/examples/base.dat" >/dev/null 2>&1 </dev/null; then
         program=$top/crates/osemosys/out/osemosys
     else
         echo "$name: osemosys wasn't built; '$top/osemosys' says why" >&2

@@ -64,6 +64,7 @@ def check_paths():
         parts = path.split("/")[1:]
         ends.update("/".join(parts[at:]) for at in range(len(parts)))
     made = {"first.mps", "first.sol", "plan.csv", "exact.csv", "multipliers.csv", "model.dat", "a.dat", "b.dat"}
+    made |= {"proof.csv", "page.html", "check.txt", "warnings.txt", "limits.csv", "prices.csv", "explain.txt", "direction.csv"}
     for document in documents():
         is_code = False
         for number, line in enumerate(lines_of(document), 1):
