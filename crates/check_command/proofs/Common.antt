@@ -20,7 +20,7 @@ pub use Rattle.check_command.specs.CheckProof.{DueForConditions, DueForProofFile
 pub use Rattle.check_command.specs.ProofVerdicts.{IsJudged, TellsVerdict, VerdictIsWithin}
 pub use Rattle.check_command.specs.declared.outcome.Outcome.TheVariants.{Accepted, Rejected, Wide}
 pub use Rattle.command_answers.proofs.CheckedRows.{are-feasible, book-of, bounds-feasible, none-feasible, rows-from_feasible, vars-are}
-pub use Rattle.command_answers.proofs.Common.{AdmitsNone, AllByRecursion, AllByRecursion-append, AllByRecursion-map, AllByRecursion-weaker, AreFeasible, AreRowsOf, Bool, BoundsAll, BoundsFeasible, CostsLess, Data, HasNameWithin, IfOk-weaker, IsBookOf, IsListedBook, IsListedVariable, IsRowOfSets, IsVariableOfSets, IsWithinSets, List, None, NoneIsFeasible, Option, Place, PlaceIsWithin, Rational, Row, RowName, SetLists, Some, Status, Var, [], all_variables, ap, ap₂, codes, cost_of, false, filter, flat_map, if◌then◌else◌, inl, inr, instances, map, minus, model_cost, name_of_row, new_capacity, pos, refl, subst, sym, true, var_cmp, ℕ, ℤ, ◌++◌, ◌∙◌, ◌∷◌, ◌≡◌, ◌≢◌, ◌⊎◌}
+pub use Rattle.command_answers.proofs.Common.{AdmitsNone, AllByRecursion, AllByRecursion-append, AllByRecursion-map, AllByRecursion-weaker, AreFeasible, AreRowsOf, Bool, BoundsAll, BoundsFeasible, CostsLess, Data, HasNameWithin, IfOk-weaker, IsBookOf, IsListedBook, IsListedVariable, IsRowOfSets, IsVariableOfSets, IsWithinSets, List, None, NoneIsFeasible, Option, Place, PlaceIsWithin, Rational, Row, RowName, SetLists, Some, Var, [], all_variables, ap, ap₂, codes, cost_of, false, filter, flat_map, if◌then◌else◌, inl, inr, instances, map, minus, model_cost, name_of_row, new_capacity, pos, refl, subst, sym, true, var_cmp, ℕ, ℤ, ◌++◌, ◌∙◌, ◌∷◌, ◌≡◌, ◌≢◌, ◌⊎◌}
 unfoldable pub use Rattle.command_answers.proofs.Common.{digits}
 pub use Rattle.command_answers.proofs.KeptPlaces.{AreFormedKept, steps-kept, wide-kept}
 pub use Rattle.command_answers.proofs.LineExamples.{two_regions}
@@ -49,3 +49,4 @@ pub use Rattle.std.proofs.Common.{Err, IfOk, Ok, Result, cond, option_map}
 pub use Rattle.std.proofs.lemmas.Option.{same_Some}
 pub use Rattle.std.specs.List.{find}
 pub use Rattle.std.specs.Prelude.{MatchResult, OnOk, int_lt}
+pub use Rattle.command_answers.specs.declared.status.Status.{Status}

@@ -24,7 +24,7 @@ pub use Rattle.named_equations.proofs.Common.{+ℤ-zero, ANNUAL_EMISSION_LIMIT, 
 pub use Rattle.named_equations.proofs.InstanceTests.{any_has}
 pub use Rattle.named_equations.specs.Plans.{Meets}
 pub use Rattle.param_tables.specs.Ranges.{billion}
-pub use Rattle.row_book.proofs.Common.{AllByRecursion, AreRowsOf, AreSameData, Book, BookFail, Bool, CAPACITY_TO_ACTIVITY_UNIT, CanBeMade, Contains-from_Has, Data, Default, E9, Has, Has-append_right, Has-instances, HasStopped, IfOk-weaker, IfSome, Index, IsNamedRow, List, None, OPERATIONAL_LIFE, OUTPUT_ACTIVITY_RATIO, Option, Rational, Row, RowName, SPECIFIED_ANNUAL_DEMAND, SPECIFIED_DEMAND_PROFILE, SetLists, Some, Var, YEAR_SPLIT, [], and_parts, ap, append_assoc, ap₂, arith, at_re, both_true, cond, drop, drop_all, drop_more, entries_in, entry_count, entry_limit, eqb-true, equation_numbers, exists, exists_at, false, flat_map, get_or, if◌then◌else◌, indices, inl, inr, instances, instances_of, ints, is_eq, is_index, is_instance, is_one_of, kind_numbers, length, list_all, list_any, lt-ltb, map, map-append, model_period_emissions, name_at, nat_eq, neg_ℤ, negsuc, pos, range_with_len, refl, row_fits, row_name_cmp, stands_at, subscripts_of, subscripts_of_kind, subst, sym, terms_at, true, true≢false, unwrap_or, value_at, var_cmp, variable, whole, ℕ, ℤ, ≤ℤ_cancel, ◌&&◌, ◌*ℤ◌, ◌*◌, ◌++◌, ◌+ℤ◌, ◌+◌, ◌-◌, ◌<ℤ◌, ◌<◌, ◌^◌, ◌∙◌, ◌∷◌, ◌≡◌, ◌≢◌, ◌≤ℤ◌, ◌≤◌}
+pub use Rattle.row_book.proofs.Common.{AllByRecursion, AreRowsOf, AreSameData, Book, Bool, CAPACITY_TO_ACTIVITY_UNIT, CanBeMade, Contains-from_Has, Data, Default, E9, Has, Has-append_right, Has-instances, HasStopped, IfOk-weaker, IfSome, Index, IsNamedRow, List, None, OPERATIONAL_LIFE, OUTPUT_ACTIVITY_RATIO, Option, Rational, Row, RowName, SPECIFIED_ANNUAL_DEMAND, SPECIFIED_DEMAND_PROFILE, SetLists, Some, Var, YEAR_SPLIT, [], and_parts, ap, append_assoc, ap₂, arith, at_re, both_true, cond, drop, drop_all, drop_more, entries_in, entry_count, entry_limit, eqb-true, equation_numbers, exists, exists_at, false, flat_map, get_or, if◌then◌else◌, indices, inl, inr, instances, instances_of, ints, is_eq, is_index, is_instance, is_one_of, kind_numbers, length, list_all, list_any, lt-ltb, map, map-append, model_period_emissions, name_at, nat_eq, neg_ℤ, negsuc, pos, range_with_len, refl, row_fits, row_name_cmp, stands_at, subscripts_of, subscripts_of_kind, subst, sym, terms_at, true, true≢false, unwrap_or, value_at, var_cmp, variable, whole, ℕ, ℤ, ≤ℤ_cancel, ◌&&◌, ◌*ℤ◌, ◌*◌, ◌++◌, ◌+ℤ◌, ◌+◌, ◌-◌, ◌<ℤ◌, ◌<◌, ◌^◌, ◌∙◌, ◌∷◌, ◌≡◌, ◌≢◌, ◌≤ℤ◌, ◌≤◌}
 unfoldable pub use Rattle.row_book.proofs.Common.{lowest}
 pub use Rattle.row_book.proofs.SameRows.{are_rows_of, count-same, fits-same, is_named_row, same-many, same-terms, same-wide}
 pub use Rattle.row_book.proofs.Subscripts.{index-from_values, index-tidied, values-from_index, values-re}
@@ -36,3 +36,4 @@ pub use Rattle.std.proofs.Common.{Err, Ok, Result, append-nil, codes, of_z, to_z
 pub use Rattle.std.proofs.lemmas.Bool.{cases_eq}
 pub use Rattle.std.specs.List.{find}
 pub use Rattle.std.specs.Prelude.{IfOk, ◌⊎◌}
+pub use Rattle.row_book.specs.declared.fail.BookFail.{BookFail}

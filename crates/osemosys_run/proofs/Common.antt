@@ -59,10 +59,10 @@ pub use Rattle.request_files.specs.Reading.{BeganOne, HasFailed, IsShort, IsTooL
 pub use Rattle.request_files.specs.Sights.{Sight, seen}
 pub use Rattle.request_files.specs.declared.whole.ReadEnd.{ReadEnd}
 pub use Rattle.result_tables.specs.declared.attempts.Begun.TheVariants.{FromNothing, FromValues, WithoutStart}
-pub use Rattle.row_book.proofs.Common.{AreSameData, Book, BookFail, CanBeMade, Contains-from_Has, Has, Has-from_Contains, HasStopped, IfSome, append_assoc, drop, exists, ints, length, length-map, lt-ltb, map-append, members, nat_lt, neg_ℤ, range_with_len, rules, suc, take, true≢false, zero, ⊤, ◌&&◌, ◌+◌, ◌-◌, ◌<◌, ◌^◌, ◌≤◌}
+pub use Rattle.row_book.proofs.Common.{AreSameData, Book, CanBeMade, Contains-from_Has, Has, Has-from_Contains, HasStopped, IfSome, append_assoc, drop, exists, ints, length, length-map, lt-ltb, map-append, members, nat_lt, neg_ℤ, range_with_len, rules, suc, take, true≢false, zero, ⊤, ◌&&◌, ◌+◌, ◌-◌, ◌<◌, ◌^◌, ◌≤◌}
 unfoldable pub use Rattle.row_book.proofs.Common.{all_fit, in_range, times}
 pub use Rattle.simplex_core.specs.declared.stops.Stop.{Stop}
-pub use Rattle.solve_command.proofs.Common.{ComesToEnd, DueBy, DueForEnd, DueForRows, Exact, HasNoPlan, HasOptimum, IsPivotDue, IsWide, IsWithinLimits, MethodEnd, PassesLimits, Refused, Rounded, SolveMethod, Summary, Uncertified, Wanted, arith, definers, first_wide, method_end}
+pub use Rattle.solve_command.proofs.Common.{ComesToEnd, DueBy, DueForEnd, DueForRows, Exact, HasNoPlan, HasOptimum, IsPivotDue, IsWide, IsWithinLimits, MethodEnd, PassesLimits, Refused, Rounded, SolveMethod, Uncertified, arith, definers, first_wide, method_end}
 unfoldable pub use Rattle.solve_command.proofs.Common.{lowest, minus, plus}
 pub use Rattle.solve_command.proofs.RowsDue.{rows-due}
 pub use Rattle.solve_command.specs.Shown.{shown_of, wanted_by}
@@ -81,3 +81,6 @@ pub use Rattle.std.specs.String.{string_bytes}
 pub use Rattle.table_command.specs.ShownTables.{IsShowable, or_values, shown_named}
 pub use Rattle.table_command.specs.Tables.{DueForKnown, DueForTable, ShowsProof, form_of}
 pub use Rattle.table_command.specs.declared.shown.Shown.{Shown}
+pub use Rattle.row_book.specs.declared.fail.BookFail.{BookFail}
+pub use Rattle.solve_command.specs.declared.solve.Shown.TheVariants.{Summary}
+pub use Rattle.solve_command.specs.declared.solve.Wanted.{Wanted}

@@ -3,7 +3,7 @@ pub use Rattle.certified_answers.specs.Answers.{IsComplete, IsNamed, IsProved}
 pub use Rattle.certified_answers.specs.declared.answers.Certified.{Certified}
 pub use Rattle.command_answers.proofs.BookPlaces.{multipliers-named, plan-named}
 pub use Rattle.command_answers.proofs.CheckedRows.{vars-are}
-pub use Rattle.command_answers.proofs.Common.{AreNamedIn, Bool, Contains, Data, HasNoBound, HasNoPlan, HasOptimum, IfOk-weaker, IsBookOf, IsListedBook, IsWide, IsWithinLimits, List, MethodEnd, None, NoneIsFeasible, Option, PassesLimits, Place, Rational, Row, RowName, SetLists, Some, Status, Var, [], all_variables, ap, ap₂, arith, ascends, codes, definers, elimination_steps, false, first_wide, if◌then◌else◌, inl, inr, instances, keys_of, map, pos, refl, subst, sym, true, ℕ, ℤ, ◌++◌, ◌∙◌, ◌∷◌, ◌≡◌, ◌⊎◌}
+pub use Rattle.command_answers.proofs.Common.{AreNamedIn, Bool, Contains, Data, HasNoBound, HasNoPlan, HasOptimum, IfOk-weaker, IsBookOf, IsListedBook, IsWide, IsWithinLimits, List, MethodEnd, None, NoneIsFeasible, Option, PassesLimits, Place, Rational, Row, RowName, SetLists, Some, Var, [], all_variables, ap, ap₂, arith, ascends, codes, definers, elimination_steps, false, first_wide, if◌then◌else◌, inl, inr, instances, keys_of, map, pos, refl, subst, sym, true, ℕ, ℤ, ◌++◌, ◌∙◌, ◌∷◌, ◌≡◌, ◌⊎◌}
 unfoldable pub use Rattle.command_answers.proofs.Common.{minus}
 pub use Rattle.command_answers.proofs.SolvedRows.{are, near, optimum, refuted, unbounded}
 pub use Rattle.command_answers.specs.BookMethods.{IsFoundBy, grid_end, method_end}
@@ -34,3 +34,4 @@ pub use Rattle.solver_answers.specs.Told.{Breaks, Gives, IsAnswer, Lacks, Told, 
 pub use Rattle.solver_answers.specs.declared.answer.Answer.TheVariants.{NoStart, Start}
 pub use Rattle.std.proofs.Common.{IfOk, cond, negsuc, ◌==◌}
 pub use Rattle.std.specs.Prelude.{is_none, length, not, unsigned_abs}
+pub use Rattle.command_answers.specs.declared.status.Status.{Status}

@@ -2,7 +2,7 @@
 pub use Rattle.certified_answers.specs.declared.answers.Certified.{Certified}
 pub use Rattle.command_answers.proofs.BookPlaces.{define-within, plan-named}
 pub use Rattle.command_answers.proofs.CheckedRows.{costs-same, feasible-from_rows, rows-from_feasible, vars-are}
-pub use Rattle.command_answers.proofs.Common.{AllByRecursion, AllByRecursion-append, AllByRecursion-weaker, Data, HasNameWithin, HasNoBound, HasNoPlan, HasOptimum, IfOk-weaker, IsBookOf, IsListedBook, IsRowOfSets, IsVariableOfSets, IsWide, IsWithinSets, List, MethodEnd, None, Option, Place, Rational, Row, SetLists, Some, Status, Var, [], ap, ap₂, arith, definer, definers, elimination_steps, first_wide, inl, inr, map, pos, refl, solved_end, subst, sym, var_cmp, ℕ, ℤ, ⊤, ◌++◌, ◌<◌, ◌∙◌, ◌∷◌, ◌≡◌}
+pub use Rattle.command_answers.proofs.Common.{AllByRecursion, AllByRecursion-append, AllByRecursion-weaker, Data, HasNameWithin, HasNoBound, HasNoPlan, HasOptimum, IfOk-weaker, IsBookOf, IsListedBook, IsRowOfSets, IsVariableOfSets, IsWide, IsWithinSets, List, MethodEnd, None, Option, Place, Rational, Row, SetLists, Some, Var, [], ap, ap₂, arith, definer, definers, elimination_steps, first_wide, inl, inr, map, pos, refl, solved_end, subst, sym, var_cmp, ℕ, ℤ, ⊤, ◌++◌, ◌<◌, ◌∙◌, ◌∷◌, ◌≡◌}
 pub use Rattle.command_answers.proofs.ListedBooks.{rows-named, vars-named}
 pub use Rattle.command_answers.proofs.MadeBooks.{large-due, program-due, within-due}
 pub use Rattle.command_answers.proofs.SolvedRows.{are, near, optimum, refuted, unbounded}
@@ -31,3 +31,4 @@ pub use Rattle.span_finder.specs.Spans.{HaveAtLeast, HaveAtMost, IsEndless, IsNe
 pub use Rattle.std.proofs.Common.{Err, Ok, Result, codes, negsuc, ◌≤◌}
 pub use Rattle.std.proofs.lemmas.Result.{on_ok_weaker}
 pub use Rattle.std.specs.Prelude.{IfSome, OnOk, false, if◌then◌else◌, is_ok, true, ◌<ℤ◌}
+pub use Rattle.command_answers.specs.declared.status.Status.{Status}
