@@ -53,7 +53,7 @@ def run(*words):
     exact = subprocess.run([PROGRAM, *words], cwd=WORK, stdin=subprocess.DEVNULL, stdout=subprocess.PIPE)
     told = ran.stderr.decode("utf-8", "replace")
     faults = [] if (ran.returncode, ran.stdout) == (exact.returncode, exact.stdout) else ["status or standard output differ from the program's"]
-    if f"{TOP}/osemosys: line" in told:
+    if f"{TOP}/osemosys: line" in told or f"{TOP}/script/" in told:
         faults.append(f"a fault of the script: {told!r}")
     return ran.returncode, ran.stdout.decode("utf-8", "replace"), told, faults
 

@@ -60,6 +60,7 @@ def try_checksum(top, program, folder):
     with open(f"{folder}/crates.txt", "w") as file:
         file.write("below:\nosemosys: below\nbeside: below\n")
     shutil.copy(f"{top}/osemosys", f"{folder}/osemosys")
+    shutil.copytree(f"{top}/script", f"{folder}/script")
     shutil.copytree(f"{top}/docs", f"{folder}/docs")
     built = f"{folder}/crates/osemosys/out/osemosys"
     # (the script tells itself what it would write down at the end of a build)
@@ -100,6 +101,7 @@ def main():
     top, program, work, count = sys.argv[1:]
     os.makedirs(f"{work}/words/docs")
     shutil.copy(f"{top}/osemosys", f"{work}/words/osemosys")
+    shutil.copytree(f"{top}/script", f"{work}/words/script")
     for name in ("base.dat", "first.dat"):
         shutil.copy(f"{top}/examples/{name}", f"{work}/words/{'ab'[name == 'first.dat']}.dat")
     early, wrong = try_words(f"{work}/words/osemosys", program, f"{work}/words", int(count))

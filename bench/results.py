@@ -123,7 +123,7 @@ def try_answers():
 
 def try_long_proof(real):
     """A script that thinks that files are shorter."""
-    short = re.sub("(?m)^LONGEST_FILE=.*", "LONGEST_FILE=20000", text_of(SCRIPT)).replace('here=$(cd "$(dirname "$(readlink -f "${BASH_SOURCE[0]}")")" && pwd)', f"here='{TOP}'")
+    short = text_of(SCRIPT).replace("unset part\n", "unset part\nLONGEST_FILE=20000\n").replace('here=$(cd "$(dirname "$(readlink -f "${BASH_SOURCE[0]}")")" && pwd)', f"here='{TOP}'")
     script = write("short", short)
     os.chmod(script, 0o755)
     try_answer("a proof that is too long", [real, "long"], 0, {"plan.csv", "multipliers.csv", "check.txt", "warnings.txt"},
