@@ -8,7 +8,7 @@ TOP, PROGRAM, WORK = sys.argv[1:]
 with open(f"{TOP}/examples/base.dat", encoding="utf-8") as source:
     BASE = source.read()
 
-# What is put in the place of a text of base.dat, or behind it; the fault that the program tells; and what the advice has.
+# What is put in the place of a text of base.dat, or after it; the fault that the program tells; and what the advice has.
 FILES = [
     ("MUIO's constraints", "set YEAR", "param UDCTag default 0 :=\n;\nset YEAR", "UnknownName", "take out a statement that has only its default"),
     ("the constraints of user-defined constraints", "set YEAR", "param UDCConstant default 5 :=\n;\nset YEAR", "UnknownName", "MUIO"),
