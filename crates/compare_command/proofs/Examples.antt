@@ -1,17 +1,14 @@
 -- Which files are spoken of, and what is said where there are no two plans, computed on examples and near misses.
-use Rattle.std.proofs.Common.{◌≡◌, ◌∙◌, ◌≢◌, ℕ, List, [], ◌++◌, refl, sym, ap, append_assoc, arith, get_or}
+use Rattle.std.proofs.Common.{◌≡◌, ◌∙◌, ℕ, List, [], refl, sym, ap, arith, get_or}
 use Rattle.std.specs.Prelude.{codes}
-use Rattle.model_sets.specs.Data.{Data}
-use Rattle.mps_writer.specs.MpsText.{line}
 use Rattle.proof_files.specs.declared.proof.Proof.TheVariants.{Optimum, Refutation, Descent}
 use Rattle.command_answers.specs.declared.status.Status.TheVariants.{Done, Infeasible, Unbounded}
-use Rattle.command_words.specs.declared.command.CompareShow.{CompareShow}
-use Rattle.command_words.specs.declared.command.CompareShow.TheVariants.{Page, Text}
-use Rattle.page_charts.specs.Openings.{BeginsWith}
+use Rattle.command_words.specs.declared.command.CompareShow.TheVariants.{Page}
 use Rattle.plan_compare.specs.declared.scenario.Scenario.{Scenario}
-use Rattle.plan_compare.specs.Comparisons.{compared_text, head_of}
+use Rattle.plan_compare.specs.Comparisons.{compared_text}
+use Rattle.result_pages.specs.Pages.{Part, compare_page, page_start}
 use Rattle.compare_command.specs.declared.scenarios.Which.TheVariants.{First, Second}
-use Rattle.compare_command.specs.Compared.{ComparesProofs, Judged, Shows, files_line, not_compared_text, status_of_both}
+use Rattle.compare_command.specs.Compared.{ComparesProofs, Judged, Shows, Written, files_line, not_compared_text, status_of_both}
 
 -- the data file and the proof of the first scenario are files 1 and 2
 first_files : files_line First ≡ codes "files 1 2\n"
@@ -36,23 +33,15 @@ neither : status_of_both (Descent [] []) (Refutation []) ≡ Unbounded
 neither = refl
 
 -- so a comparison with a refutation doesn't end with status 0, nor does its page
-not_done : (show : CompareShow) (one two : Judged) (text : List ℕ) → ComparesProofs show (Optimum [] []) (Refutation []) one two Done text → ⊥
-not_done show one two text compares = cc compares.0
+not_done : (written : Written) (one two : Judged) (text : List ℕ) → ComparesProofs written (Optimum [] []) (Refutation []) one two Done text → ⊥
+not_done written one two text compares = cc compares.0
 
 -- nor with what is said of the two scenarios the other way round
-turned : (one two : Judged) → one.said ≡ codes "accepted infeasible\n" → two.said ≡ codes "accepted unbounded\n"
-    → ComparesProofs Page (Refutation []) (Descent [] []) one two Infeasible (codes "not compared\nfiles 1 2\naccepted infeasible\nfiles 3 4\naccepted unbounded\n")
-turned one two is is2 = rw (is, is2) (refl, refl)
+turned : (written : Written) (one two : Judged) → one.said ≡ codes "accepted infeasible\n" → two.said ≡ codes "accepted unbounded\n"
+    → ComparesProofs written (Refutation []) (Descent [] []) one two Infeasible (codes "not compared\nfiles 1 2\naccepted infeasible\nfiles 3 4\naccepted unbounded\n")
+turned written one two is is2 = rw (is, is2) (refl, refl)
 
--- a page has the first lines of the text in a comment, and doesn't begin with them
-as_page : (first second : Scenario) → Shows Page first second (codes "<!DOCTYPE html>\n<!--\n" ++ head_of first second ++ codes "-->\n<html>")
-as_page first second =
-    let begin = codes "<!DOCTYPE html>\n<!--\n" in
-    let head = head_of first second in
-    record {
-      rest = codes "<html>";
-      text_is = sym (append_assoc begin (head ++ codes "-->\n") (codes "<html>") ∙ ap (λ text. begin ++ text) (append_assoc head (codes "-->\n") (codes "<html>")));
-    }
-
-text_as_page : (first second : Scenario) (text : List ℕ) → text ≡ compared_text first second → Shows Page first second text → ⊥
-text_as_page first second text same begins = let other : 99 ≡ 60 = ap (λ text. get_or text 0 0) (sym same ∙ begins.text_is) in omega (arith, other)
+-- a page begins as HTML, and not as the text
+text_as_page : (part part2 : Part) (first second : Scenario) (text : List ℕ) → text ≡ compared_text first second → Shows Page part part2 first second text → ⊥
+unfolding compare_page page_start
+text_as_page part part2 first second text same shows = let other : 99 ≡ 60 = ap (λ text. get_or text 0 0) (sym same ∙ shows) in omega (arith, other)

@@ -14,10 +14,9 @@ use Rattle.command_answers.specs.MadeBooks.{HasNoRows}
 use Rattle.command_answers.specs.MadeRows.{IsMadeFor}
 use Rattle.command_answers.specs.declared.status.Status.{Status}
 use Rattle.command_answers.specs.declared.status.Status.TheVariants.{Done}
-use Rattle.command_words.specs.declared.command.CompareShow.{CompareShow}
 use Rattle.compare_command.specs.declared.scenarios.Which.{Which}
 use Rattle.compare_command.specs.declared.scenarios.Which.TheVariants.{First, Second}
-use Rattle.compare_command.specs.Compared.{Compares, Judged, files_line}
+use Rattle.compare_command.specs.Compared.{Compares, Judged, Written, files_line}
 
 -- what `check` is due to say over rows of data, for the bytes of a proof
 abbrev pub Check : Type 1
@@ -44,12 +43,12 @@ pub record IsJudged (places : ℕ) (Checked : Check) (bytes proof_bytes : List �
   pub checked : Checked judged.data_of judged.rows Done judged.said
 
 -- it accepts both, and this is answered
-pub record IsOfBoth (places : ℕ) (Checked Checked2 : Check) (show : CompareShow) (bytes proof_bytes bytes2 proof_bytes2 : List ℕ) (status : Status) (text : List ℕ) : Type 0 where
+pub record IsOfBoth (written : Written) (Checked Checked2 : Check) (bytes proof_bytes bytes2 proof_bytes2 : List ℕ) (status : Status) (text : List ℕ) : Type 0 where
   pub one : Judged
   pub two : Judged
-  pub first : IsJudged places Checked bytes proof_bytes one
-  pub second : IsJudged places Checked2 bytes2 proof_bytes2 two
-  pub compares : Compares show one two status text
+  pub first : IsJudged written.places Checked bytes proof_bytes one
+  pub second : IsJudged written.places Checked2 bytes2 proof_bytes2 two
+  pub compares : Compares written one two status text
 
 -- the second scenario isn't accepted, and the first is
 pub record IsSecondRefused (places : ℕ) (Checked Checked2 : Check) (bytes proof_bytes bytes2 : List ℕ) (status : Status) (text : List ℕ) : Type 0 where
@@ -57,9 +56,9 @@ pub record IsSecondRefused (places : ℕ) (Checked Checked2 : Check) (bytes proo
   pub first : IsJudged places Checked bytes proof_bytes one
   pub refused : IsRefused places Checked2 bytes2 Second status text
 
--- What is due where this is to be shown, with written factors of so many decimal places, where `Checked` and `Checked2` have what `check` is due to say of each proof over rows of its data.
-abbrev pub DueForCompare : ℕ → Check → Check → CompareShow → (bytes proof_bytes bytes2 proof_bytes2 : List ℕ) → Status → List ℕ → Type 0
-DueForCompare places Checked Checked2 show bytes proof_bytes bytes2 proof_bytes2 status text =
-    IsRefused places Checked bytes First status text
-    ⊎ IsSecondRefused places Checked Checked2 bytes proof_bytes bytes2 status text
-    ⊎ IsOfBoth places Checked Checked2 show bytes proof_bytes bytes2 proof_bytes2 status text
+-- What is due where a comparison is to be written so, where `Checked` and `Checked2` have what `check` is due to say of each proof over rows of its data.
+abbrev pub DueForCompare : Written → Check → Check → (bytes proof_bytes bytes2 proof_bytes2 : List ℕ) → Status → List ℕ → Type 0
+DueForCompare written Checked Checked2 bytes proof_bytes bytes2 proof_bytes2 status text =
+    IsRefused written.places Checked bytes First status text
+    ⊎ IsSecondRefused written.places Checked Checked2 bytes proof_bytes bytes2 status text
+    ⊎ IsOfBoth written Checked Checked2 bytes proof_bytes bytes2 proof_bytes2 status text

@@ -1,5 +1,5 @@
 -- What is answered of the proofs of two scenarios that `check` accepts: how their plans differ, as text or as a page, or what `check` says of each, where there are no two plans.
-use Rattle.std.specs.Prelude.{◌≡◌, ℕ, List, ◌++◌, codes}
+use Rattle.std.specs.Prelude.{◌≡◌, ℕ, List, ◌++◌, codes, ⊤}
 use Rattle.exact_num.specs.Rational.{Rational}
 use Rattle.exact_num.specs.Value.{value_of}
 use Rattle.model_sets.specs.Data.{Data}
@@ -18,7 +18,9 @@ use Rattle.command_answers.specs.declared.status.Status.TheVariants.{Done, Infea
 use Rattle.command_answers.specs.ShownProofs.{HasWorth}
 use Rattle.command_words.specs.declared.command.CompareShow.{CompareShow}
 use Rattle.command_words.specs.declared.command.CompareShow.TheVariants.{Page, Text}
-use Rattle.page_charts.specs.Openings.{BeginsWith}
+use Rattle.page_tables.specs.PageTables.{proof_tables}
+use Rattle.plan_tables.specs.declared.shown.NumberForm.TheVariants.{Decimals}
+use Rattle.result_pages.specs.Pages.{Part, compare_page}
 use Rattle.plan_compare.specs.declared.scenario.Scenario.{Scenario}
 use Rattle.plan_compare.specs.Comparisons.{compared_text, head_of}
 use Rattle.compare_command.specs.declared.scenarios.Which.{Which}
@@ -45,6 +47,26 @@ pub record IsOf (judged : Judged) (sets : SetLists) (accepted : AcceptedProof) :
   pub said_is : accepted.said.items ≡ judged.said
   pub worth : HasWorth judged.data_of judged.rows accepted.proof accepted.worth
 
+-- the tables that the page of a scenario is drawn from, with written factors of so many decimal places
+abbrev pub tables_of : ℕ → Judged → List ℕ
+tables_of places judged = proof_tables Decimals places judged.data_of judged.rows judged.proof
+
+-- these are the tables of a proof over rows of the data, where a page is written
+abbrev pub AreTablesFor : CompareShow → ℕ → Data → List Row → Proof → List ℕ → Type 0
+AreTablesFor Text places d rows proof tables = ⊤
+AreTablesFor Page places d rows proof tables = tables ≡ proof_tables Decimals places d rows proof
+
+-- what a page shows of a scenario whose data file has this name
+abbrev pub part_of : ℕ → List ℕ → Judged → Part
+part_of places name judged = record { name = name; said = judged.said; tables = tables_of places judged }
+
+-- how a comparison is written: with written factors of so many decimal places, and with the names of both data files
+pub record Written : Type 0 where
+  pub show : CompareShow
+  pub places : ℕ
+  pub name : List ℕ
+  pub name2 : List ℕ
+
 -- ---- two plans
 
 -- the scenario that is compared has the sets of the data, the plan and its cost, and the bound of the multipliers
@@ -54,20 +76,20 @@ pub record IsScenario (d : Data) (rows : List Row) (plan : List (Var × Rational
   pub cost_is : value_of scenario.cost ≡ plan_cost (all_variables d) plan
   pub bound_is : value_of scenario.bound ≡ multiplier_bound rows multipliers
 
--- what is written of how two scenarios differ: the text, or a page that begins, in a comment, with its first lines
-abbrev pub Shows : CompareShow → Scenario → Scenario → List ℕ → Type 0
-Shows Text first second text = text ≡ compared_text first second
-Shows Page first second text = BeginsWith (head_of first second) text
+-- what is written of how two scenarios differ: the text, or a page of both and of its first lines
+abbrev pub Shows : CompareShow → Part → Part → Scenario → Scenario → List ℕ → Type 0
+Shows Text part part2 first second text = text ≡ compared_text first second
+Shows Page part part2 first second text = text ≡ compare_page part part2 (head_of first second)
 
 -- it is written of two such scenarios, wherever they lie in memory
-pub record IsComparison (show : CompareShow) (one two : Judged) (plan : List (Var × Rational)) (multipliers : List (RowName × Rational)) (plan2 : List (Var × Rational)) (multipliers2 : List (RowName × Rational))
+pub record IsComparison (written : Written) (one two : Judged) (plan : List (Var × Rational)) (multipliers : List (RowName × Rational)) (plan2 : List (Var × Rational)) (multipliers2 : List (RowName × Rational))
     (status : Status) (text : List ℕ) : Type 0 where
   pub first : Scenario
   pub second : Scenario
   pub is_first : IsScenario one.data_of one.rows plan multipliers first
   pub is_second : IsScenario two.data_of two.rows plan2 multipliers2 second
   pub status_is : status ≡ Done
-  pub shows : Shows show first second text
+  pub shows : Shows written.show (part_of written.places written.name one) (part_of written.places written.name2 two) first second text
 
 -- ---- no two plans
 
@@ -92,10 +114,10 @@ IsNotCompared proof proof2 said said2 status text = (status ≡ status_of_both p
 
 -- ---- one of the two
 
-abbrev pub ComparesProofs : CompareShow → Proof → Proof → Judged → Judged → Status → List ℕ → Type 0
-ComparesProofs show (Optimum plan multipliers) (Optimum plan2 multipliers2) one two status text = IsComparison show one two plan multipliers plan2 multipliers2 status text
-ComparesProofs show proof proof2 one two status text = IsNotCompared proof proof2 one.said two.said status text
+abbrev pub ComparesProofs : Written → Proof → Proof → Judged → Judged → Status → List ℕ → Type 0
+ComparesProofs written (Optimum plan multipliers) (Optimum plan2 multipliers2) one two status text = IsComparison written one two plan multipliers plan2 multipliers2 status text
+ComparesProofs written proof proof2 one two status text = IsNotCompared proof proof2 one.said two.said status text
 
 -- what is answered of two scenarios
-abbrev pub Compares : CompareShow → Judged → Judged → Status → List ℕ → Type 0
-Compares show one two status text = ComparesProofs show one.proof two.proof one two status text
+abbrev pub Compares : Written → Judged → Judged → Status → List ℕ → Type 0
+Compares written one two status text = ComparesProofs written one.proof two.proof one two status text

@@ -1,19 +1,18 @@
 // The answers of `compare` to two proofs that `check` accepts.
-ghost use Rattle.std.specs.Prelude.{◌≡◌, List, IfOk};
+ghost use Rattle.std.specs.Prelude.{◌≡◌, ℕ, List, IfOk};
 ghost use Rattle.model_sets.specs.Data.{Data};
 ghost use Rattle.row_core.specs.declared.Row.{Row};
 ghost use Rattle.command_answers.specs.ShownProofs.{HasWorth};
-ghost use Rattle.compare_command.specs.Compared.{Compares, IsOf, Judged, Shows, not_compared_text};
-ghost use Rattle.page_charts.specs.Openings.{BeginsWith};
+ghost use Rattle.compare_command.specs.Compared.{AreTablesFor, Compares, IsOf, Judged, Shows, not_compared_text};
 ghost use Rattle.plan_compare.specs.Comparisons.{head_of};
+ghost use Rattle.result_pages.specs.Pages.{compare_page, part_of};
 
 use crate::scenarios::{Proved, Which, push_scenario};
 use crate::standing::{Standing, standing_of};
 use command_answers::{Answer, Status};
 use command_words::CompareShow;
-use compare_page::{Shown, comparison_page};
-use page_charts::page_opening;
-use plan_compare::{compare_text, push_head};
+use plan_compare::{Scenario, compare_text, push_head};
+use result_pages::{PagePart, compare_page};
 use std::alloc::{AllocError, Global};
 
 /// The line that stands before what `check` says of both scenarios, where there are no two plans.
@@ -29,22 +28,15 @@ pub fn answer_compare(
 ) -> Result<Answer, AllocError>
     requires first { (d : Data) × (rows : List Row) × HasWorth d rows first.accepted.now.proof first.accepted.now.worth }
     requires second { (d : Data) × (rows : List Row) × HasWorth d rows second.accepted.now.proof second.accepted.now.worth }
-    ensures { (one two : Judged) → IsOf one first.entry.sets.now first.entry.accepted.now
-        → IsOf two second.entry.sets.now second.entry.accepted.now
-        → IfOk result (λ answer. Compares show one two answer.status answer.text.items) }
+    ensures { (places : ℕ) (one two : Judged) → IsOf one first.entry.sets.now first.entry.accepted.now → AreTablesFor show places one.data_of one.rows one.proof first.entry.tables.now
+        → IsOf two second.entry.sets.now second.entry.accepted.now → AreTablesFor show places two.data_of two.rows two.proof second.entry.tables.now
+        → IfOk result (λ answer. Compares (record { show = show; places = places; name = first.entry.file.now; name2 = second.entry.file.now }) one two answer.status answer.text.items) }
 {
     match standing_of(first) {
         Standing::Planned(one) => match standing_of(second) {
             Standing::Planned(two) => {
-                let one = Shown {
-                    name: first.file,
-                    scenario: one,
-                };
-                let two = Shown {
-                    name: second.file,
-                    scenario: two,
-                };
-                compare(alloc, show, one, two)
+                let parts = (part_of(first), part_of(second));
+                compare(alloc, show, parts, one, two)
             }
             Standing::Planless(status) => tell_both(alloc, status, first, second),
         },
@@ -52,34 +44,48 @@ pub fn answer_compare(
     }
 }
 
+// What a page shows of a scenario.
+fn part_of<'a>(proved: Proved<'a>) -> PagePart<'a>
+    ensures { part_of result ≡ record { name = proved.entry.file.now; said = proved.entry.accepted.now.said.items; tables = proved.entry.tables.now } }
+{
+    PagePart {
+        name: proved.file,
+        said: proved.accepted.said.as_slice(),
+        tables: proved.tables,
+    }
+}
+
 // How two plans differ.
 fn compare(
     alloc: Global,
     show: CompareShow,
-    first: Shown<'_>,
-    second: Shown<'_>,
+    parts: (PagePart<'_>, PagePart<'_>),
+    first: Scenario<'_>,
+    second: Scenario<'_>,
 ) -> Result<Answer, AllocError>
     ensures { IfOk result (λ answer. (answer.status ≡ Status.Done)
-        × Shows show first.entry.scenario second.entry.scenario answer.text.items) }
+        × Shows show (part_of parts.entry.0) (part_of parts.entry.1) first.entry second.entry answer.text.items) }
 {
     let text = match show {
-        CompareShow::Text => compare_text(alloc, first.scenario, second.scenario)?,
-        CompareShow::Page => page_of(alloc, first, second)?,
+        CompareShow::Text => compare_text(alloc, first, second)?,
+        CompareShow::Page => page_of(alloc, parts, first, second)?,
     };
     let status = Status::Done;
     Ok(Answer { status, text })
 }
 
-// The page of how they differ. It begins, in a comment, with the first lines of the text.
-fn page_of(alloc: Global, first: Shown<'_>, second: Shown<'_>) -> Result<Vec<u8>, AllocError>
-    ensures { IfOk result (λ text. BeginsWith (head_of first.entry.scenario second.entry.scenario) text.items) }
+// The page of how they differ.
+fn page_of(
+    alloc: Global,
+    parts: (PagePart<'_>, PagePart<'_>),
+    first: Scenario<'_>,
+    second: Scenario<'_>,
+) -> Result<Vec<u8>, AllocError>
+    ensures { IfOk result (λ text. text.items ≡ compare_page (part_of parts.entry.0) (part_of parts.entry.1) (head_of first.entry second.entry)) }
 {
     let mut head = Vec::new(alloc);
-    push_head(&mut head, first.scenario, second.scenario)?;
-    let mut text = page_opening(alloc, head.as_slice())?;
-    let page = comparison_page(alloc, first, second)?;
-    text.extend_from_slice(page.as_slice())?;
-    Ok(text)
+    push_head(&mut head, first, second)?;
+    compare_page(alloc, parts.0, parts.1, head.as_slice())
 }
 
 // What `check` says of both.

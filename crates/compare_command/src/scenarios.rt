@@ -21,6 +21,8 @@ pub struct Proved<'a> {
     pub file: &'a [u8],
     pub sets: &'a Sets,
     pub accepted: &'a AcceptedProof,
+    /// The tables that its page is drawn from, where a page is written.
+    pub tables: &'a [u8],
 }
 
 /// What `check` answers of the files of a scenario that it doesn't accept, after the line that says which files these are.

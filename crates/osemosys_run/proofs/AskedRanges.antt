@@ -1,5 +1,5 @@
 -- The numbers of a request are such as words can ask for.
-use Rattle.osemosys_run.proofs.Common.{◌≡◌, List, ℕ, Some, None, Result, Ok, Request, Check, CheckProof, Compare, Curve, Explain, Make, Mps, Page, Reduce, Solve, SolveFrom, Span, Table, Warn, asked, IsInRange}
+use Rattle.osemosys_run.proofs.Common.{◌≡◌, List, ℕ, Ok, Request, Check, CheckProof, Compare, Curve, Explain, Make, Mps, Page, Reduce, Solve, SolveFrom, Span, Table, Warn, asked, IsInRange}
 use Rattle.command_words.proofs.Requests.{asked_places, check_places, check_proof_places, compare_places, curve_places, explain_places, make_size, page_places, reduce_places, solve_from_places, solve_places, span_places, table_places}
 
 pub asked-in-range : (words : List (List ℕ)) (request : Request) → asked words ≡ Ok request → IsInRange request

@@ -22,7 +22,7 @@ pub use Rattle.command_words.specs.declared.command.CompareShow.{CompareShow}
 pub use Rattle.command_words.specs.declared.command.MakeShow.{MakeShow}
 pub use Rattle.command_words.specs.declared.fault.WordFault.{WordFault}
 pub use Rattle.compare_command.specs.Compare.{DueOfCheck, IsJudged, IsRefused}
-pub use Rattle.compare_command.specs.Compared.{ComparesProofs, IsComparison, IsOf, IsScenario, Judged, Shows, files_line}
+pub use Rattle.compare_command.specs.Compared.{AreTablesFor, ComparesProofs, IsComparison, IsOf, IsScenario, Judged, Shows, Written, files_line}
 pub use Rattle.compare_command.specs.declared.scenarios.Which.{Which}
 pub use Rattle.compare_command.specs.declared.scenarios.Which.TheVariants.{First, Second}
 pub use Rattle.curve_command.specs.Curve.{DueForCurve, DueForLimits, limits_in}
@@ -37,7 +37,7 @@ pub use Rattle.model_sets.specs.Members.{empty_set, index_of, is_without_members
 pub use Rattle.model_sets.specs.declared.set_numbers.TheConstants.{EMISSION, REGION, TECHNOLOGY, YEAR}
 pub use Rattle.mps_writer.specs.MpsText.{IsNamedRow, IsNamedVariable, line, rows_text}
 pub use Rattle.osemosys_run.specs.Causes.{Caused, CausedByRequest, IsAnswered, IsReplyFor, IsStopped, TellsEnd}
-pub use Rattle.osemosys_run.specs.Compared.{CheckedBy, ComeFirst, DueForCompared, IsPromisedDifference}
+pub use Rattle.osemosys_run.specs.Compared.{CheckedBy, DueForCompared, HasLines, IsPromisedDifference}
 pub use Rattle.osemosys_run.specs.Complete.{AreInGap, AreThere, CanBeAccepted, CanBeDone, CanBeDrawn, CanBeExplained, CanBeSolved, CanBeSpanned, CanBeTried, CanBeWritten, Completes, IsEndOf, IsEnded, IsExplained, NothingStopsSpan, ProvesOptimum}
 pub use Rattle.osemosys_run.specs.Due.{AskForEquations, Due, DueForFile, DueForFiles, DueForMake, DueForRequest, DueOver, DueOverAsked, DueOverData, bytes_at, names_asked}
 pub use Rattle.osemosys_run.specs.Mps.{DueForEquations}
@@ -78,7 +78,7 @@ pub use Rattle.std.specs.List.{count_by}
 pub use Rattle.std.specs.Option.{option_map}
 pub use Rattle.std.specs.Prelude.{IfOk}
 pub use Rattle.std.specs.String.{string_bytes}
-pub use Rattle.table_command.specs.ShownTables.{IsShowable, or_values, shown_named}
+pub use Rattle.table_command.specs.ShownTables.{IsShowable, or_else, shown_named}
 pub use Rattle.table_command.specs.Tables.{DueForKnown, DueForTable, ShowsProof, form_of}
 pub use Rattle.table_command.specs.declared.shown.Shown.{Shown}
 pub use Rattle.row_book.specs.declared.fail.BookFail.{BookFail}

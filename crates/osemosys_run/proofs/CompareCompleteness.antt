@@ -1,8 +1,8 @@
 -- Two proofs that can be accepted are compared: what is due for them is that.
-use Rattle.osemosys_run.proofs.Common.{◌≡◌, ◌⊎◌, ℕ, inl, inr, List, subst, Data, RowName, Var, Rational, all_variables, instances, records_of, Proof, Optimum, IsProof, CompareShow, HasNoRows, Status, Done, DueOfCheck, IsJudged, IsRefused, ComparesProofs, Judged, Which, CheckedBy, DueForCompared, ProvesOptimum}
+use Rattle.osemosys_run.proofs.Common.{◌≡◌, ◌⊎◌, ℕ, inl, inr, List, subst, Data, RowName, Var, Rational, all_variables, instances, records_of, Proof, Optimum, IsProof, HasNoRows, Status, Done, DueOfCheck, IsJudged, IsRefused, ComparesProofs, Judged, Written, Which, CheckedBy, DueForCompared, ProvesOptimum}
 use Rattle.command_answers.specs.MadeRows.{IsMadeFor}
 use Rattle.osemosys_run.proofs.Completeness.{Laws, no_rows, over_accepted}
-use Rattle.osemosys_run.proofs.ShownCompleteness.{file_accepted, same}
+use Rattle.osemosys_run.proofs.ShownCompleteness.{file_accepted}
 
 -- ---- one scenario
 
@@ -32,18 +32,18 @@ module _ (laws : Laws) (gap places : ℕ) (bytes proof_bytes : List ℕ) (can : 
 
 -- ---- both
 
-of_optima : (show : CompareShow) (one two : Judged) (plan : List (Var × Rational)) (multipliers : List (RowName × Rational)) (plan2 : List (Var × Rational)) (multipliers2 : List (RowName × Rational)) (status : Status) (text : List ℕ)
-    → one.proof ≡ Optimum plan multipliers → two.proof ≡ Optimum plan2 multipliers2 → ComparesProofs show one.proof two.proof one two status text → status ≡ Done
-of_optima show one two plan multipliers plan2 multipliers2 status text is is2 compares =
-    let first = subst (λ (p : Proof). ComparesProofs show p two.proof one two status text) is compares in
-    let both = subst (λ (p : Proof). ComparesProofs show (Optimum plan multipliers) p one two status text) is2 first in
+of_optima : (written : Written) (one two : Judged) (plan : List (Var × Rational)) (multipliers : List (RowName × Rational)) (plan2 : List (Var × Rational)) (multipliers2 : List (RowName × Rational)) (status : Status) (text : List ℕ)
+    → one.proof ≡ Optimum plan multipliers → two.proof ≡ Optimum plan2 multipliers2 → ComparesProofs written one.proof two.proof one two status text → status ≡ Done
+of_optima written one two plan multipliers plan2 multipliers2 status text is is2 compares =
+    let first = subst (λ (p : Proof). ComparesProofs written p two.proof one two status text) is compares in
+    let both = subst (λ (p : Proof). ComparesProofs written (Optimum plan multipliers) p one two status text) is2 first in
     both.status_is
 
-module _ (laws : Laws) (gap places : ℕ) (show : CompareShow) (bytes proof_bytes bytes2 proof_bytes2 : List ℕ) (can : ProvesOptimum gap places bytes proof_bytes) (can2 : ProvesOptimum gap places bytes2 proof_bytes2)
+module _ (laws : Laws) (gap : ℕ) (written : Written) (bytes proof_bytes bytes2 proof_bytes2 : List ℕ) (can : ProvesOptimum gap written.places bytes proof_bytes) (can2 : ProvesOptimum gap written.places bytes2 proof_bytes2)
     (status : Status) (text : List ℕ) where
-  pub compared : DueForCompared places gap show bytes proof_bytes bytes2 proof_bytes2 status text → status ≡ Done
-  compared (inl refused) = absurd (not_refused laws gap places bytes proof_bytes can _ status text refused)
-  compared (inr (inl second)) = absurd (not_refused laws gap places bytes2 proof_bytes2 can2 _ status text second.refused)
+  pub compared : DueForCompared written gap bytes proof_bytes bytes2 proof_bytes2 status text → status ≡ Done
+  compared (inl refused) = absurd (not_refused laws gap written.places bytes proof_bytes can _ status text refused)
+  compared (inr (inl second)) = absurd (not_refused laws gap written.places bytes2 proof_bytes2 can2 _ status text second.refused)
   compared (inr (inr both)) =
-      of_optima show both.one both.two can.plan can.multipliers can2.plan can2.multipliers status text
-      (optimum_is laws gap places bytes proof_bytes can both.one both.first) (optimum_is laws gap places bytes2 proof_bytes2 can2 both.two both.second) both.compares
+      of_optima written both.one both.two can.plan can.multipliers can2.plan can2.multipliers status text
+      (optimum_is laws gap written.places bytes proof_bytes can both.one both.first) (optimum_is laws gap written.places bytes2 proof_bytes2 can2 both.two both.second) both.compares

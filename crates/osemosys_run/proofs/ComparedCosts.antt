@@ -1,6 +1,8 @@
 -- Where `compare` ends with status 0, `check` accepts two optima, so the costs of its text are those of plans, and its bounds hold of all plans.
-use Rattle.osemosys_run.proofs.Common.{◌≡◌, ℕ, ℤ, pos, neg_ℤ, ◌<ℤ◌, ◌++◌, inl, inr, List, Some, refl, sym, ◌∙◌, subst, append_assoc, codes, flat_map, Rational, Data, Row, RowName, Var, all_variables, instances, records_of, Proof, Optimum, Refutation, Descent, IsProof, Status, Done, AreFeasible, BoundsFeasible, DueForPlan, multiplier_bound, plan_cost, DueForProofFile, DueForProofTold, ProofLaws, CompareShow, IsJudged, ComparesProofs, IsComparison, IsScenario, Judged, Shows, CheckedBy, ComeFirst, DueForCompared, IsPromisedDifference}
+use Rattle.osemosys_run.proofs.Common.{◌≡◌, ℕ, ℤ, pos, neg_ℤ, ◌<ℤ◌, ◌++◌, inl, inr, List, Some, refl, sym, ◌∙◌, subst, append_assoc, codes, flat_map, Rational, Data, Row, RowName, Var, all_variables, instances, records_of, Proof, Optimum, Refutation, Descent, IsProof, Done, AreFeasible, BoundsFeasible, DueForPlan, multiplier_bound, plan_cost, DueForProofFile, DueForProofTold, ProofLaws, CompareShow, IsJudged, ComparesProofs, IsComparison, Judged, Shows, Written, CheckedBy, DueForCompared, HasLines, IsPromisedDifference}
 use Rattle.exact_num.specs.Value.{value_of}
+use Rattle.compare_command.specs.Compared.{part_of}
+use Rattle.result_pages.specs.Pages.{Part}
 use Rattle.command_words.specs.declared.command.CompareShow.TheVariants.{Page, Text}
 use Rattle.plan_compare.specs.declared.scenario.Scenario.{Scenario}
 use Rattle.plan_compare.specs.Comparisons.{compared_kinds, head_of, kind_text, members_text}
@@ -38,7 +40,10 @@ first-lines : (lines members kinds end text : List ℕ) → text ≡ lines ++ me
 first-lines lines members kinds end text same =
     (members ++ (kinds ++ end), same ∙ append_assoc (lines ++ members) kinds end ∙ append_assoc lines members (kinds ++ end))
 
-module _ (laws : ProofLaws) (costs : CostLaws) (places gap : ℕ) (show : CompareShow) where
+module _ (laws : ProofLaws) (costs : CostLaws) (written : Written) (gap : ℕ) where
+  abbrev places : ℕ
+  places = written.places
+
   -- of a file that is accepted, what is due is due of what it tells
   told-so : (d : Data) (rows : List Row) (bytes : List ℕ) (proof : Proof) (said : List ℕ) → IsProof d.sets (all_variables d) (instances d) (records_of bytes) proof
       → DueForProofFile places d rows bytes gap Done said → DueForProofTold places d rows gap proof Done said
@@ -64,16 +69,16 @@ module _ (laws : ProofLaws) (costs : CostLaws) (places gap : ℕ) (show : Compar
 
   -- ---- the text
 
-  come-first : (shown : CompareShow) (first second : Scenario) (text : List ℕ) → Shows shown first second text → ComeFirst shown (head_of first second) text
-  come-first Text first second text same =
+  lines-of : (show : CompareShow) (part part2 : Part) (first second : Scenario) (text : List ℕ) → Shows show part part2 first second text → HasLines show (head_of first second) text
+  lines-of Text part part2 first second text same =
       first-lines (head_of first second) (members_text first.sets.now second.sets.now) (flat_map (kind_text (side_of first) (side_of second)) compared_kinds) (codes "end\n") text same
-  come-first Page first second text begins = begins
+  lines-of Page part part2 first second text same = (part, part2, same)
 
   -- of two optima
   of-comparison : (bytes proof_bytes bytes2 proof_bytes2 text : List ℕ) (one two : Judged) (plan : List (Var × Rational)) (multipliers : List (RowName × Rational)) (plan2 : List (Var × Rational)) (multipliers2 : List (RowName × Rational))
       → one.proof ≡ Optimum plan multipliers → two.proof ≡ Optimum plan2 multipliers2
       → IsJudged places (CheckedBy places gap proof_bytes) bytes proof_bytes one → IsJudged places (CheckedBy places gap proof_bytes2) bytes2 proof_bytes2 two
-      → IsComparison show one two plan multipliers plan2 multipliers2 Done text → IsPromisedDifference places show bytes bytes2 text
+      → IsComparison written one two plan multipliers plan2 multipliers2 Done text → IsPromisedDifference written bytes bytes2 text
   of-comparison bytes proof_bytes bytes2 proof_bytes2 text one two plan multipliers plan2 multipliers2 is is2 judged judged2 compares =
       let worth = worth-of bytes proof_bytes one plan multipliers is judged in
       let worth2 = worth-of bytes2 proof_bytes2 two plan2 multipliers2 is2 judged2 in
@@ -94,7 +99,7 @@ module _ (laws : ProofLaws) (costs : CostLaws) (places gap : ℕ) (show : Compar
         bound = value_of first.bound;
         cost2 = value_of second.cost;
         bound2 = value_of second.bound;
-        come_first = come-first show first second text compares.shows;
+        has_lines = lines-of written.show (part_of places written.name one) (part_of places written.name2 two) first second text compares.shows;
         is_cost = cost;
         is_bound = bound;
         is_cost2 = cost2;
@@ -107,7 +112,7 @@ module _ (laws : ProofLaws) (costs : CostLaws) (places gap : ℕ) (show : Compar
 
   of-proofs : (bytes proof_bytes bytes2 proof_bytes2 text : List ℕ) (one two : Judged) (proof proof2 : Proof) → one.proof ≡ proof → two.proof ≡ proof2
       → IsJudged places (CheckedBy places gap proof_bytes) bytes proof_bytes one → IsJudged places (CheckedBy places gap proof_bytes2) bytes2 proof_bytes2 two
-      → ComparesProofs show proof proof2 one two Done text → IsPromisedDifference places show bytes bytes2 text
+      → ComparesProofs written proof proof2 one two Done text → IsPromisedDifference written bytes bytes2 text
   of-proofs bytes proof_bytes bytes2 proof_bytes2 text one two (Optimum plan multipliers) (Optimum plan2 multipliers2) is is2 judged judged2 compares =
       of-comparison bytes proof_bytes bytes2 proof_bytes2 text one two plan multipliers plan2 multipliers2 is is2 judged judged2 compares
   of-proofs bytes proof_bytes bytes2 proof_bytes2 text one two (Optimum plan multipliers) (Refutation multipliers2) is is2 judged judged2 compares = absurd (cc compares.0)
@@ -120,7 +125,7 @@ module _ (laws : ProofLaws) (costs : CostLaws) (places gap : ℕ) (show : Compar
   of-proofs bytes proof_bytes bytes2 proof_bytes2 text one two (Descent plan direction) (Descent plan2 direction2) is is2 judged judged2 compares = absurd (cc compares.0)
 
   -- What is promised where the status is 0.
-  pub difference-promised : (bytes proof_bytes bytes2 proof_bytes2 text : List ℕ) → DueForCompared places gap show bytes proof_bytes bytes2 proof_bytes2 Done text → IsPromisedDifference places show bytes bytes2 text
+  pub difference-promised : (bytes proof_bytes bytes2 proof_bytes2 text : List ℕ) → DueForCompared written gap bytes proof_bytes bytes2 proof_bytes2 Done text → IsPromisedDifference written bytes bytes2 text
   difference-promised bytes proof_bytes bytes2 proof_bytes2 text (inl refused) = absurd (refused.not_done refl)
   difference-promised bytes proof_bytes bytes2 proof_bytes2 text (inr (inl second)) = absurd (second.refused.not_done refl)
   difference-promised bytes proof_bytes bytes2 proof_bytes2 text (inr (inr both)) =

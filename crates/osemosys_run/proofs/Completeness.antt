@@ -1,5 +1,5 @@
 -- A file that can be written is, and a plan that can be accepted is: what is due for them is that.
-use Rattle.osemosys_run.proofs.Common.{◌≡◌, ◌⊎◌, ◌<◌, ◌<ℤ◌, ◌++◌, ℕ, ℤ, pos, inl, inr, List, Option, Some, None, Result, refl, ap, sym, ◌∙◌, subst, arith, ints, same_Some, Rational, whole, first_wide, Blocks, Data, SetLists, Row, Var, row_name_cmp, var_cmp, value_in, all_variables, steps, cost_entries, model_cost, reason_of, bound-over, AreMultipliers, IsMultiplierFault, IsPlan, IsPlanFault, Fields, records_of, Proof, IsProof, IsProofFault, instances, RowName, Place, AreRowsOf, CanBeMade, HasStopped, BookFail, Status, Done, Accepted, IsWithinLimits, PassesLimits, DueBySize, HasNoRows, AreInGap, CanBeAccepted, CanBeWritten, DueForText, DueForCheck, DueForMultiplierFile, DueForPlan, DueForPlanFile, IsRejected, TellsMultipliers, check_conditions, multiplier_bound, plan_cost, DueForEquations, DueWhereNotAccepted}
+use Rattle.osemosys_run.proofs.Common.{◌≡◌, ◌⊎◌, ◌<◌, ◌<ℤ◌, ◌++◌, ℕ, ℤ, pos, inl, inr, List, Option, Some, None, refl, ap, sym, ◌∙◌, subst, arith, ints, same_Some, Rational, whole, first_wide, Blocks, Data, SetLists, Row, Var, row_name_cmp, var_cmp, value_in, all_variables, steps, cost_entries, model_cost, reason_of, bound-over, AreMultipliers, IsMultiplierFault, IsPlan, IsPlanFault, Fields, records_of, Proof, IsProof, IsProofFault, instances, RowName, Place, AreRowsOf, CanBeMade, HasStopped, BookFail, Status, Done, Accepted, IsWithinLimits, PassesLimits, DueBySize, HasNoRows, AreInGap, CanBeAccepted, CanBeWritten, DueForText, DueForCheck, DueForMultiplierFile, DueForPlan, DueForPlanFile, IsRejected, TellsMultipliers, check_conditions, multiplier_bound, plan_cost, DueForEquations, DueWhereNotAccepted}
 use Rattle.mathprog_data.specs.Verdicts.{Says}
 use Rattle.row_core.proofs.EvaluatedLaws.{sum-IsOver}
 use Rattle.named_equations.specs.Plans.{Feasible}

@@ -1,5 +1,5 @@
 -- What is due for worked examples: the words, the files, the status and the text; and what isn't.
-use Rattle.osemosys_run.proofs.Common.{◌≡◌, ℕ, zero, suc, ◌+◌, ◌<◌, ◌≤◌, ◌-◌, ◌^◌, List, [], ◌∷◌, ◌++◌, length, take, refl, sym, ap, subst, arith, inl, inr, Bool, true, false, MatchBool, nat_lt, Data, Status, Done, Refused, Words, ReadFault, WriteFault, Memory, Rejected, Rose, output, asked, most_bytes, DueForText, too_long_line, DueWhereNotAccepted, Stops, StopsAt, BeganOne, HasFailed, IsTooLong, part_of_file, refused_file, whole_file, Sight, ReadEnd, Completes, AskForEquations, Due, DueForFile, DueForEquations, Caused, TellsEnd, IsReadToEnd, Delivers, Sent}
+use Rattle.osemosys_run.proofs.Common.{◌≡◌, ℕ, zero, suc, ◌+◌, ◌<◌, ◌≤◌, ◌-◌, ◌^◌, List, [], ◌∷◌, ◌++◌, length, take, refl, sym, ap, subst, arith, inl, inr, Bool, true, false, MatchBool, nat_lt, Status, Done, Refused, Words, ReadFault, WriteFault, Memory, Rejected, Rose, output, asked, most_bytes, DueForText, too_long_line, Stops, StopsAt, BeganOne, HasFailed, part_of_file, refused_file, whole_file, Sight, ReadEnd, Completes, AskForEquations, Due, DueForFile, DueForEquations, Caused, TellsEnd, IsReadToEnd, Delivers, Sent}
 use Rattle.std.specs.Prelude.{codes, Option, Some, None, ⊤}
 use Rattle.std.specs.Fmt.{digits}
 use Rattle.mathprog_data.specs.declared.fault.DataFault.{DataFault}

@@ -1,5 +1,5 @@
 -- A model of which nothing stops the trials is explained: some plan meets the named equations, or a conflict is told.
-use Rattle.osemosys_run.proofs.Common.{ℕ, inl, inr, List, Data, Row, all_variables, DueForText, Status, SolveMethod, Exact, Rounded, CanBeExplained, IsExplained}
+use Rattle.osemosys_run.proofs.Common.{ℕ, inl, inr, List, Row, all_variables, DueForText, Status, SolveMethod, Exact, Rounded, CanBeExplained, IsExplained}
 use Rattle.explain_command.specs.declared.explain.Wanted.{Wanted}
 use Rattle.explain_command.specs.Explain.{DueForExplain, DueForMethod, Finds, NothingStops}
 use Rattle.osemosys_run.proofs.Completeness.{Laws, found_or_due, no_rows, over_accepted}

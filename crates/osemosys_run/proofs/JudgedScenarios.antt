@@ -1,5 +1,11 @@
 -- From what `check` says of a proof over the rows of data to what is known of a scenario.
-use Rattle.osemosys_run.proofs.Common.{◌≡◌, ◌≢◌, ◌++◌, ℕ, List, inl, inr, Result, Ok, Err, refl, sym, ◌∙◌, subst, MatchResult, AreSameData, Data, SetLists, Book, Accepted, HasNoRows, IsMadeBook, DueWhereNotAccepted, Answer, Status, Done, TellsProof, DueOfCheck, IsJudged, IsRefused, IsOf, Judged, files_line, Which, CheckedBy, AcceptsOver, IsKept, IsUnkept, RefusesOver}
+use Rattle.osemosys_run.proofs.Common.{◌≡◌, ◌≢◌, ◌++◌, ℕ, List, [], ◌∷◌, Bool, true, false, filter, inl, inr, Ok, Err, refl, sym, ◌∙◌, subst, AllByRecursion, Rational, Data, SetLists, RowName, Var, Book, Accepted, HasNoRows, IsMadeBook, DueWhereNotAccepted, Fields, Proof, Optimum, Refutation, Descent, IsProof, Answer, Status, Done, TellsProof, DueOfCheck, IsRefused, AreTablesFor, CompareShow, Judged, files_line, Which, CheckedBy, AcceptsOver, IsKept, IsUnkept, RefusesOver}
+use Rattle.std.proofs.Common.{cond}
+use Rattle.plan_files.specs.Listed.{IsListedVariable}
+use Rattle.row_core.specs.NameTexts.{VariableIsWithin}
+use Rattle.row_core.specs.Numbers.{keys_of}
+use Rattle.page_tables.specs.PageTables.{HasValuesWithin}
+use Rattle.proof_files.specs.PlansWithin.{HasPlanWithin}
 use Rattle.command_answers.specs.declared.proved.AcceptedProof.{AcceptedProof}
 
 -- ---- statuses
@@ -17,30 +23,57 @@ refused-not_done bytes status text (inr (blocks, says, inr refused)) = λ done. 
 
 -- ---- over data
 
--- what `check` says over the rows of a book is what it says over the data
-pub told-over : (places gap : ℕ) (d : Data) (bytes : List ℕ) (book : Book) → IsMadeBook places d book → (verdict : Result AcceptedProof Answer) → TellsProof places bytes gap d book.rows verdict
-    → MatchResult verdict (λ accepted. AcceptsOver places gap d bytes accepted) (λ said. RefusesOver places gap d bytes said.status said.text.items)
-told-over places gap d bytes book made (Ok accepted) told = record {
+-- what `check` says over the rows of a book is what it says over the data: where it accepts the proof
+pub accepted-over : (show : CompareShow) (places gap : ℕ) (d : Data) (bytes : List ℕ) (book : Book) → IsMadeBook places d book → (accepted : AcceptedProof) (tables : List ℕ) → TellsProof places bytes gap d book.rows (Ok accepted)
+    → AreTablesFor show places d book.rows accepted.proof tables → AcceptsOver show places gap d bytes accepted tables
+accepted-over show places gap d bytes book made accepted tables told tabled = record {
   made = record { made = made.made; rows = book.rows; are_rows = made.is_book.are_rows; due = told.due };
   told = told.told;
   worth = told.worth;
+  tabled = tabled;
 }
-told-over places gap d bytes book made (Err said) told = record {
+
+-- and where it doesn't
+pub refused-over : (places gap : ℕ) (d : Data) (bytes : List ℕ) (book : Book) → IsMadeBook places d book → (said : Answer) → TellsProof places bytes gap d book.rows (Err said) → RefusesOver places gap d bytes said.status said.text.items
+refused-over places gap d bytes book made said told = record {
   due = inl (record { made = made.made; rows = book.rows; are_rows = made.is_book.are_rows; due = told.due });
   not_done = told.not_done;
 }
 
+-- ---- the values that are shown of a proof
+
+keys_within : (sets : SetLists) (values : List (Var × Rational)) → AllByRecursion (IsListedVariable sets) (keys_of values) → AllByRecursion (λ (e : Var × Rational). VariableIsWithin sets e.0) values
+keys_within sets [] all = tt
+keys_within sets (e ∷ values) all = (all.0.1, keys_within sets values all.1)
+
+all-kept : {A : Type 0} (P : A → Type 0) (test : A → Bool) (xs : List A) → AllByRecursion P xs → AllByRecursion P (filter test xs)
+all-kept P test [] all = tt
+all-kept P test (x ∷ xs) all = cases (test x) (all-kept P test xs all.1)
+  where
+    cases : (t : Bool) → AllByRecursion P (filter test xs) → AllByRecursion P (cond t (x ∷ filter test xs) (filter test xs))
+    cases true rest = (all.0, rest)
+    cases false rest = rest
+
+-- a direction's variables are among those of the data
+pub values_within : (sets : SetLists) (vars : List Var) (names : List RowName) (all : List Fields) (proof : Proof) → AllByRecursion (IsListedVariable sets) vars → IsProof sets vars names all proof → HasPlanWithin sets proof
+    → HasValuesWithin sets proof
+values_within sets vars names all (Optimum plan multipliers) listed is within = within
+values_within sets vars names all (Refutation multipliers) listed is within = tt
+values_within sets vars names all (Descent plan direction) listed is within =
+    keys_within sets direction (subst (AllByRecursion (IsListedVariable sets)) (sym is.told.2.named) (all-kept (IsListedVariable sets) _ vars listed))
+
 -- ---- over the text of a data file
 
 -- a scenario is known where the text is accepted and `check` accepts the proof over its data
-pub kept : (places gap : ℕ) (bytes proof_bytes : List ℕ) (d : Data) (sets : SetLists) (accepted : AcceptedProof) → Accepted bytes d → sets ≡ d.sets → AcceptsOver places gap d proof_bytes accepted
-    → IsKept places gap bytes proof_bytes sets accepted
-kept places gap bytes proof_bytes d sets accepted text same over =
+pub kept : (show : CompareShow) (places gap : ℕ) (bytes proof_bytes : List ℕ) (d : Data) (sets : SetLists) (accepted : AcceptedProof) (tables : List ℕ) → Accepted bytes d → sets ≡ d.sets
+    → AcceptsOver show places gap d proof_bytes accepted tables → IsKept show places gap bytes proof_bytes sets accepted tables
+kept show places gap bytes proof_bytes d sets accepted tables text same over =
     let judged : Judged = record { data_of = d; rows = over.made.rows; proof = accepted.proof; said = accepted.said.items } in
     record {
       judged = judged;
       is = record { accepted = text; made = over.made.made; are_rows = over.made.are_rows; told = over.told; checked = over.made.due };
       of = record { sets_are = same; proof_is = refl; said_is = refl; worth = over.worth };
+      tabled = over.tabled;
     }
 
 -- what `check` says of another is told after the line of its files

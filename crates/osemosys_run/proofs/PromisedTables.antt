@@ -1,6 +1,8 @@
 -- The multipliers of a proof that `check` accepts prove their bound, and so each price that `table` writes of them is promised.
-use Rattle.osemosys_run.proofs.Common.{◌≡◌, ◌≢◌, ℕ, ℤ, pos, ◌<◌, List, [], ◌∷◌, ◌++◌, Option, None, Some, inl, inr, sym, ◌∙◌, ap, subst, refl, arith, rules, AllByRecursion, ints, Rational, first_wide, Data, Row, RowName, Var, Place, row_name_cmp, value_in, all_variables, instances, AreRowsOf, AllPass, Condition, first_failing, steps, model_cost, Reason, bound-over, proves_from, AreGiven, Fields, GivesValue, record_of, records_of, Proof, Optimum, Refutation, Descent, IsProof, NumberForm, Done, DueOverRows, DueForPlan, multiplier_bound, plan_cost, DueForProofFile, DueForProofTold, ProofLaws, Shown, or_values, shown_named, DueForKnown, DueForTable, ShowsProof}
-use Rattle.std.specs.Prelude.{◌<ℤ◌, unsigned_abs, Contains}
+use Rattle.osemosys_run.proofs.Common.{◌≡◌, ◌≢◌, ℕ, ℤ, pos, ◌<◌, List, [], ◌∷◌, ◌++◌, Option, None, Some, inl, inr, sym, ◌∙◌, ap, subst, refl, arith, rules, AllByRecursion, ints, Rational, first_wide, Data, Row, RowName, Var, Place, row_name_cmp, value_in, all_variables, instances, AreRowsOf, AllPass, Condition, first_failing, steps, model_cost, Reason, bound-over, proves_from, AreGiven, Fields, GivesValue, record_of, records_of, Proof, Optimum, Refutation, Descent, IsProof, NumberForm, Done, DueOverRows, DueForPlan, multiplier_bound, plan_cost, DueForProofFile, DueForProofTold, ProofLaws, Shown, or_else, shown_named, DueForKnown, DueForTable, ShowsProof}
+use Rattle.std.specs.Option.{option_map}
+use Rattle.std.specs.Prelude.{◌<ℤ◌, unsigned_abs, Contains, codes, if◌then◌else◌}
+use Rattle.std.specs.Str.{bytes_eq}
 use Rattle.exact_num.proofs.RationalLaws.{lowest-IsLowest}
 use Rattle.scaled_decimals.specs.FractionText.{bottom_of, top_of}
 use Rattle.row_core.specs.Values.{IsOver}
@@ -13,10 +15,12 @@ use Rattle.certificate_checker.proofs.ConditionLaws.{fails_before, passed_first,
 use Rattle.plan_files.specs.Records.{row_fields}
 use Rattle.plan_quantities.specs.RowPrices.{IsRowPromised}
 use Rattle.plan_quantities.specs.ShownRows.{IsToBeShown}
+use Rattle.data_tables.specs.DataNames.{data_table_named}
+use Rattle.plan_tables.specs.TableNames.{table_named}
 use Rattle.price_tables.specs.declared.shown.PriceTable.{PriceTable}
 use Rattle.price_tables.specs.PriceAmounts.{row_price}
 use Rattle.price_tables.specs.PricedRows.{price_table_named, priced_rows}
-use Rattle.table_command.specs.declared.shown.Shown.TheVariants.{Prices}
+use Rattle.table_command.specs.declared.shown.Shown.TheVariants.{Data as OfData, Page, Prices, Values}
 use Rattle.osemosys_run.specs.Promised.{ArePricesPromised, IsPromisedTable}
 
 -- the law on a table of prices
@@ -103,7 +107,7 @@ module _ (laws : ProofLaws) (law : TableLaw) (complete : ShownRowLaw) (denominat
 
   -- a table of prices that is shown of a proof is that of its multipliers
   of-proof : (rows : List Row) (table : PriceTable) (form : NumberForm) (text : List ℕ) (proof : Proof) (said : List ℕ) → AreRowsOf places d (instances d) rows
-      → IsProof d.sets vars (instances d) (records_of bytes) proof → DueForProofTold places d rows gap proof Done said → ShowsProof d.sets rows (Prices table) form proof Done text
+      → IsProof d.sets vars (instances d) (records_of bytes) proof → DueForProofTold places d rows gap proof Done said → ShowsProof places d rows (Prices table) form proof Done text
       → IsPromisedTable places d bytes table form text
   of-proof rows table form text (Optimum plan multipliers) said are told due shows =
       let some = denominators multipliers (all_positive (row_fields d.sets) told.rows multipliers told.told.3.values) in
@@ -121,7 +125,7 @@ module _ (laws : ProofLaws) (law : TableLaw) (complete : ShownRowLaw) (denominat
   of-proof rows table form text (Descent plan direction) said are told due shows = absurd (cc shows.0)
 
   over-rows : (rows : List Row) (table : PriceTable) (form : NumberForm) (text : List ℕ) → AreRowsOf places d (instances d) rows
-      → DueOverRows (DueForProofFile places d rows bytes gap) bytes (λ said. ShowsProof d.sets rows (Prices table) form) d Done text → IsPromisedTable places d bytes table form text
+      → DueOverRows (DueForProofFile places d rows bytes gap) bytes (λ said. ShowsProof places d rows (Prices table) form) d Done text → IsPromisedTable places d bytes table form text
   over-rows rows table form text are (inl checked) = absurd (checked.not_done refl)
   over-rows rows table form text are (inr shown) = of-proof rows table form text shown.proof shown.said are shown.told (told-so rows shown.proof shown.said shown.told shown.accepted) shown.shows
 
@@ -136,7 +140,8 @@ module _ (laws : ProofLaws) (law : TableLaw) (complete : ShownRowLaw) (denominat
       → DueForTable places (λ rows. DueForProofFile places d rows bytes gap) bytes name form d Done text → IsPromisedTable places d bytes table form text
   table-promised name form table text named (inl unknown) = absurd (cc unknown.status_is)
   table-promised name form table text named (inr known) =
-      let priced : shown_named name ≡ Some (Prices table) = ap (or_values name) named in
+      let others : Option Shown = or_else (option_map Values (table_named name)) (if bytes_eq name (codes "page") then Some Page else option_map OfData (data_table_named d.second name)) in
+      let priced : shown_named d.second name ≡ Some (Prices table) = ap (λ (found : Option PriceTable). or_else (option_map Prices found) others) named in
       let same : Some known.0 ≡ Some (Prices table) = sym known.1 ∙ priced in
       let is : known.0 ≡ Prices table = cc in
       of-known table form text (subst (λ (shown : Shown). DueForKnown places (λ rows. DueForProofFile places d rows bytes gap) bytes shown form d Done text) is known.2)

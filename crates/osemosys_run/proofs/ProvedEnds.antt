@@ -1,5 +1,5 @@
 -- What `solve` writes to prove an end is accepted by `check`.
-use Rattle.osemosys_run.proofs.Common.{◌≡◌, ℕ, List, [], inl, inr, refl, sym, ◌∙◌, subst, codes, Data, line, Row, RowName, Place, all_variables, instances, AreRowsOf, CanBeMade, HasStopped, BookFail, Stop, Status, Done, Infeasible, Refused, Unbounded, Uncertified, HasNoRows, SolveMethod, Exact, Rounded, DueForProof, DueForProofFile, ProofLaws, descent-accepted, optimum-accepted, refutation-accepted, Wanted, wanted_by, DueBy, DueForEnd, DueForRows, DueForSolve, DueForSolveFrom, DueFrom, FromNothing, FromValues, WithoutStart, count_by, StartFile, rows-due}
+use Rattle.osemosys_run.proofs.Common.{◌≡◌, ℕ, List, [], inl, inr, refl, sym, ◌∙◌, codes, Data, line, Row, RowName, Place, all_variables, instances, AreRowsOf, CanBeMade, HasStopped, BookFail, Stop, Status, Done, Infeasible, Refused, Unbounded, Uncertified, HasNoRows, SolveMethod, Exact, Rounded, DueForProof, DueForProofFile, ProofLaws, descent-accepted, optimum-accepted, refutation-accepted, Wanted, wanted_by, DueBy, DueForEnd, DueForRows, DueForSolve, DueForSolveFrom, DueFrom, FromNothing, FromValues, WithoutStart, count_by, StartFile, rows-due}
 use Rattle.row_book.specs.declared.fail.BookFail.TheVariants as book
 use Rattle.command_answers.specs.declared.status.Refusal.{Refusal}
 use Rattle.solve_command.specs.declared.solve.Shown.TheVariants.{Proof}

@@ -1,7 +1,7 @@
 -- What follows where files were read one after another, and where the reading stopped at one.
 use Rattle.osemosys_run.proofs.Common.{◌≡◌, ◌≢◌, ◌⊎◌, ◌<◌, ◌≤◌, ◌+◌, ℕ, zero, suc, inl, inr, List, [], ◌∷◌, length, Option, Some, None, IsSome, refl, ap, sym, ◌∙◌, subst, arith, Rose, Lacks, Has, Status, AreRead, Stops, StopsAt, Sight, ReadEnd, AreThere, DueForFile, DueForFiles, TellsEnd}
 use Rattle.io_edges.specs.Files.{file_named}
-use Rattle.request_files.specs.Reading.{BeganOne, IsWholeFile, most_bytes}
+use Rattle.request_files.specs.Reading.{most_bytes}
 use Rattle.request_files.specs.declared.whole.ReadEnd.TheVariants.{NoFile, Failed, TooLong, Memory}
 use Rattle.osemosys_run.proofs.FilesDue.{long_file, short_file}
 

@@ -1,5 +1,5 @@
 -- A request that must come to an end does: what is due for it is that.
-use Rattle.osemosys_run.proofs.Common.{◌≡◌, ℕ, List, Option, Result, Ok, subst, option_map, Status, WordFault, Request, Check, CheckProof, Compare, Curve, Explain, Make, Mps, Page, Reduce, Solve, SolveFrom, Span, Table, Warn, asked, names_of, AreThere, CanBeDone, IsEndOf, Due, DueForRequest, DueOver, bytes_at}
+use Rattle.osemosys_run.proofs.Common.{◌≡◌, ℕ, List, Result, Ok, subst, option_map, Status, WordFault, Request, Check, CheckProof, Compare, Curve, Explain, Make, Mps, Page, Reduce, Solve, SolveFrom, Span, Table, Warn, asked, names_of, AreThere, CanBeDone, IsEndOf, Due, DueForRequest, DueOver, bytes_at}
 use Rattle.command_words.specs.declared.command.MakeShow.TheVariants.{File, Summary}
 use Rattle.model_maker.specs.MadeText.{made_text}
 use Rattle.osemosys_run.proofs.Completeness.{Laws, accepted, written}
@@ -7,6 +7,7 @@ use Rattle.osemosys_run.proofs.CompareCompleteness.{compared}
 use Rattle.osemosys_run.proofs.CurveCompleteness.{drawn}
 use Rattle.osemosys_run.proofs.ExplainCompleteness.{explained}
 use Rattle.osemosys_run.proofs.FilesDue.{over_there}
+use Rattle.result_pages.specs.FileNames.{last_segment}
 use Rattle.osemosys_run.proofs.ShownCompleteness.{paged, tabled}
 use Rattle.osemosys_run.proofs.SolveCompleteness.{ended, ended_from_start, summary_ended}
 use Rattle.osemosys_run.proofs.SpanCompleteness.{spanned}
@@ -26,11 +27,11 @@ completes laws (Span name region technology year slack gap pivots places method)
 completes laws (Make size File) contents status text can due = absurd can
 completes laws (Make size Summary) contents status text can due = summary_ended laws (made_text size) status due.0 can due.1
 completes laws (Table name proof table exact gap places) contents status text can due =
-    tabled laws gap places (bytes_at contents 0) (bytes_at contents 1) can.1 status text table exact can.0.0 can.0.1 due
-completes laws (Page name proof gap places) contents status text can due = paged laws gap places (bytes_at contents 0) (bytes_at contents 1) can status text due
+    tabled laws gap places (bytes_at contents 0) (bytes_at contents 1) can.0 status text table exact can.1 can.2 due
+completes laws (Page name proof gap places) contents status text can due = paged laws gap places (bytes_at contents 0) (bytes_at contents 1) can status text (last_segment name) due
 completes laws (Warn name) contents status text can due = absurd can
 completes laws (Compare first first_proof second second_proof gap places show) contents status text can due =
-    compared laws gap places show (bytes_at contents 0) (bytes_at contents 1) (bytes_at contents 2) (bytes_at contents 3) can.0 can.1 status text due
+    compared laws gap (record { show = show; places = places; name = last_segment first; name2 = last_segment second }) (bytes_at contents 0) (bytes_at contents 1) (bytes_at contents 2) (bytes_at contents 3) can.0 can.1 status text due
 completes laws (Reduce name places) contents status text can due = absurd can
 
 pub completes_words : Laws → (words : List (List ℕ)) (files : List (List ℕ × List ℕ)) (status : Status) (text : List ℕ) → Due words files status text

@@ -1,5 +1,5 @@
 -- What follows from what was delivered and from its cause.
-use Rattle.osemosys_run.proofs.Common.{◌≡◌, ◌≢◌, ◌⊎◌, ◌<◌, ◌+◌, ℕ, inl, inr, List, [], ◌∷◌, length, Option, Some, IsSome, Result, Ok, Err, refl, sym, ◌∙◌, subst, arith, ⊤, Contains-from_Has, Rose, Lacks, Status, Done, Refused, ReadFault, WriteFault, Memory, WordFault, Request, asked, names_of, AreMoved, Stops, Sight, ReadEnd, moved-read, AreThere, CanBeDone, Completes, IsEndOf, Due, DueForRequest, DueOverAsked, names_asked, CanBeTold, IsOwn, Caused, CausedByRequest, IsAnswered, IsStopped, TellsEnd, HasReadAll, IsReadAtWriteFault, IsReadToEnd, ReadsWhole, SpeaksOfFiles, Delivers, IsBegun, Sent}
+use Rattle.osemosys_run.proofs.Common.{◌≡◌, ◌⊎◌, ◌<◌, ◌+◌, ℕ, inl, inr, List, [], Option, Some, IsSome, Result, Ok, sym, ◌∙◌, subst, arith, Contains-from_Has, Rose, Lacks, Status, Done, Refused, ReadFault, WriteFault, Memory, WordFault, Request, asked, names_of, AreMoved, Stops, Sight, ReadEnd, moved-read, AreThere, CanBeDone, Completes, IsEndOf, Due, DueForRequest, DueOverAsked, names_asked, CanBeTold, IsOwn, Caused, CausedByRequest, IsAnswered, TellsEnd, HasReadAll, IsReadAtWriteFault, IsReadToEnd, ReadsWhole, SpeaksOfFiles, Delivers, IsBegun, Sent}
 use Rattle.command_answers.specs.declared.status.Refusal.TheVariants as refusals
 use Rattle.command_answers.specs.declared.status.ReadStop.TheVariants as stops
 use Rattle.request_files.specs.Reading.{most_bytes}

@@ -1,5 +1,5 @@
 -- A table and a page of a proof that can be accepted are written: what is due for it is that.
-use Rattle.osemosys_run.proofs.Common.{◌≡◌, Bool, ℕ, inl, inr, List, Some, None, sym, ◌∙◌, subst, same_Some, Row, all_variables, instances, AreRowsOf, records_of, Proof, Optimum, IsProof, Data, Status, Done, DueForText, DueForProofFile, DueForProofTold, DueForShown, DueOverRows, DueForPage, ShowsPage, DueForKnown, DueForTable, ShowsProof, form_of, shown_named, Shown, ProvesOptimum}
+use Rattle.osemosys_run.proofs.Common.{◌≡◌, Bool, ℕ, inl, inr, List, Some, None, sym, ◌∙◌, subst, same_Some, Row, all_variables, instances, AreRowsOf, records_of, Proof, Optimum, IsProof, Status, Done, DueForText, DueForProofFile, DueForProofTold, DueForShown, DueOverRows, DueForPage, ShowsPage, DueForKnown, DueForTable, ShowsProof, form_of, shown_named, Shown, ProvesOptimum}
 use Rattle.osemosys_run.proofs.Completeness.{Laws, no_rows, over_accepted, plan_done}
 
 -- ---- any command of the two files
@@ -35,9 +35,9 @@ module _ (laws : Laws) (gap places : ℕ) (bytes proof_bytes : List ℕ) (can : 
 
   -- ---- `table`
 
-  module _ (name : List ℕ) (exact : Bool) (shown : Shown) (named : shown_named name ≡ Some shown) where
+  module _ (name : List ℕ) (exact : Bool) (shown : Shown) (named : shown_named can.d.second name ≡ Some shown) where
     known_shown : DueForKnown places Checked proof_bytes shown (form_of exact) can.d status text → status ≡ Done
-    known_shown due = shown_done (λ rows said. ShowsProof can.d.sets rows shown (form_of exact)) (λ rows said shows. shows.0) due
+    known_shown due = shown_done (λ rows said. ShowsProof places can.d rows shown (form_of exact)) (λ rows said shows. shows.0) due
 
     table_shown : DueForTable places Checked proof_bytes name (form_of exact) can.d status text → status ≡ Done
     table_shown (inl none) = let no : None ≡ Some shown = sym none.unknown ∙ named in absurd (cc no)
@@ -51,7 +51,7 @@ module _ (laws : Laws) (gap places : ℕ) (bytes proof_bytes : List ℕ) (can : 
 
   -- ---- `page`
 
-  pub paged : DueForText (λ rounded d. DueForPage places (λ rows. DueForProofFile places d rows proof_bytes gap) proof_bytes d) bytes status text → status ≡ Done
-  paged due =
-      shown_done (λ rows. ShowsPage) (λ rows said shows. shows.0)
-      (over_accepted laws (λ rounded d. DueForPage places (λ rows. DueForProofFile places d rows proof_bytes gap) proof_bytes d) bytes can.d status text can.accepted due)
+  pub paged : (name : List ℕ) → DueForText (λ rounded d. DueForPage name rounded places (λ rows. DueForProofFile places d rows proof_bytes gap) proof_bytes d) bytes status text → status ≡ Done
+  paged name due =
+      shown_done (λ rows. ShowsPage name can.accepted.blocks.rounded places can.d rows) (λ rows said shows. shows.0)
+      (over_accepted laws (λ rounded d. DueForPage name rounded places (λ rows. DueForProofFile places d rows proof_bytes gap) proof_bytes d) bytes can.d status text can.accepted due)

@@ -1,13 +1,11 @@
 -- Accepted data have a variable: NewCapacity of the first technology in the first region and year, since these sets have a member.
-use Rattle.osemosys_run.proofs.Common.{◌≡◌, ℕ, zero, suc, ◌<◌, Bool, true, false, ◌&&◌, List, [], ◌∷◌, ◌++◌, length, map, filter, None, refl, sym, ap, ap₂, ◌∙◌, subst, arith, lt-ltb, if◌then◌else◌, flat_map, range_with_len, Data, SetLists, empty_set, is_without_members, members, Blocks, Var, all_variables, exists, Has-from_Contains, Accepted}
+use Rattle.osemosys_run.proofs.Common.{◌≡◌, ℕ, zero, suc, Bool, true, false, ◌&&◌, List, [], ◌∷◌, ◌++◌, length, map, filter, None, refl, sym, subst, arith, lt-ltb, if◌then◌else◌, flat_map, range_with_len, Data, SetLists, empty_set, is_without_members, members, Blocks, Var, all_variables, exists, Has-from_Contains, Accepted}
 use Rattle.std.specs.Prelude.{Contains, nat_eq, nat_lt}
 use Rattle.model_sets.specs.Names.{fuel, mode, region, required_sets, set_count, technology, timeslice, year}
 use Rattle.param_tables.specs.BlockData.{data_told, set_lists}
 use Rattle.param_tables.specs.Canonical.{canonical}
 use Rattle.param_tables.specs.InTurn.{first_of}
 use Rattle.param_tables.specs.SetRefusals.{fault_in, member_refusals, set_refusals}
-use Rattle.model_sets.specs.declared.fault.SetFault.{SetFault}
-use Rattle.named_equations.specs.Positions.{count_of}
 use Rattle.named_equations.specs.Variables.{new_capacity}
 use Rattle.named_equations.proofs.InstanceTests.{Contains-variables}
 

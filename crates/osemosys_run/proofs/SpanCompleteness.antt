@@ -1,5 +1,5 @@
 -- Where nothing stops the work, a span is found, or it is told that there is no plan or no least cost.
-use Rattle.osemosys_run.proofs.Common.{◌≡◌, ◌⊎◌, ℕ, true, inl, inr, List, Option, Some, None, sym, ◌∙◌, subst, all_fit, Rational, Data, index_of, members, REGION, TECHNOLOGY, YEAR, Row, Var, all_variables, instances, AreRowsOf, CanBeMade, SolveMethod, Exact, Rounded, definers, DueForText, Status, IsWithinLimits, slack_formed, slack_limit, Stopped, CanBeSpanned, IsEnded, NothingStopsSpan}
+use Rattle.osemosys_run.proofs.Common.{◌≡◌, ℕ, true, inl, inr, List, Option, Some, None, sym, ◌∙◌, subst, all_fit, Rational, Data, index_of, members, REGION, TECHNOLOGY, YEAR, Row, Var, all_variables, instances, AreRowsOf, CanBeMade, SolveMethod, Exact, Rounded, definers, DueForText, Status, IsWithinLimits, slack_formed, slack_limit, Stopped, CanBeSpanned, IsEnded, NothingStopsSpan}
 use Rattle.certified_answers.specs.Worth.{multiplier_bound}
 use Rattle.span_finder.specs.SpanEnds.{Stops}
 use Rattle.span_command.specs.Span.{DueBy, DueForEnd, DueForFound, DueForMember, DueForMethod, DueForSpan, Finds, HasLeastCost, built}

@@ -1,5 +1,5 @@
 -- What stops `span`: examples, and near misses.
-use Rattle.osemosys_run.proofs.Common.{◌≡◌, ℕ, List, true, false, sym, ◌∙◌, true≢false, all_fit, Rational, Row, RowName, Var, Place, HasNoPlan, HasOptimum, IsPivotDue, IsWide, definers, method_end, Stop, slack_formed, slack_limit, Stopped, NothingStopsSpan}
+use Rattle.osemosys_run.proofs.Common.{◌≡◌, ℕ, List, false, sym, ◌∙◌, true≢false, all_fit, Rational, Row, RowName, Var, Place, HasNoPlan, HasOptimum, IsPivotDue, IsWide, definers, method_end, Stop, slack_formed, slack_limit, Stopped, NothingStopsSpan}
 use Rattle.certified_answers.specs.Worth.{multiplier_bound as bound_of}
 use Rattle.span_finder.specs.SpanEnds.{Stops}
 

@@ -1,6 +1,6 @@
 -- Which files `mps` must write out, which plans `check` must accept, which models `solve` and `make` must bring to an end, which `explain` must, which curves must be told whole, which spans must be found, and which tables, pages and comparisons must be written.
 use Rattle.std.specs.List.{AllByRecursion}
-use Rattle.std.specs.Prelude.{◌≡◌, ◌≢◌, ◌⊎◌, ℕ, ℤ, Bool, ◌≤◌, true, List, [], ◌∷◌, length, Option, Some, None, Ok, ⊤}
+use Rattle.std.specs.Prelude.{◌≡◌, ◌≢◌, ◌⊎◌, ℕ, ℤ, ◌≤◌, true, List, [], ◌∷◌, length, Option, Some, None, Ok, ⊤}
 use Rattle.std.specs.Option.{option_map}
 use Rattle.exact_num.specs.Range.{all_fit}
 use Rattle.exact_num.specs.Rational.{Rational}
@@ -179,7 +179,8 @@ CanBeDone (Explain name pivots places method) contents = CanBeExplained pivots p
 CanBeDone (Curve name region emission limits gap pivots places method) contents = CanBeDrawn region emission limits pivots places (bytes_at contents 0)
 CanBeDone (Span name region technology year slack gap pivots places method) contents = CanBeSpanned region technology year slack pivots places (bytes_at contents 0)
 CanBeDone (Make size MakeShow.Summary) contents = CanBeSolved default_pivots default_places Summary (made_text size)
-CanBeDone (Table name proof table exact gap places) contents = ((shown : Shown) × (shown_named table ≡ Some shown)) × ProvesOptimum gap places (bytes_at contents 0) (bytes_at contents 1)
+CanBeDone (Table name proof table exact gap places) contents =
+    (can : ProvesOptimum gap places (bytes_at contents 0) (bytes_at contents 1)) × (shown : Shown) × (shown_named can.d.second table ≡ Some shown)
 CanBeDone (Page name proof gap places) contents = ProvesOptimum gap places (bytes_at contents 0) (bytes_at contents 1)
 CanBeDone (Compare first first_proof second second_proof gap places show) contents =
     ProvesOptimum gap places (bytes_at contents 0) (bytes_at contents 1) × ProvesOptimum gap places (bytes_at contents 2) (bytes_at contents 3)

@@ -24,6 +24,7 @@ use Rattle.osemosys_run.specs.Mps.{DueForEquations}
 use Rattle.osemosys_run.specs.Warned.{IsWarned}
 use Rattle.page_command.specs.Pages.{DueForPage}
 use Rattle.reduce_command.specs.Reduced.{DueForReduced}
+use Rattle.result_pages.specs.FileNames.{last_segment}
 use Rattle.solve_command.specs.Shown.{wanted_by}
 use Rattle.solve_command.specs.Solve.{DueForSolve}
 use Rattle.solve_command.specs.Starts.{DueForSolveFrom}
@@ -55,7 +56,7 @@ DueOverData (Span name region technology year slack gap pivots places method) co
 DueOverData (Table name proof table exact gap places) contents rounded d status text =
     DueForTable places (λ rows. DueForProofFile places d rows (bytes_at contents 1) gap) (bytes_at contents 1) table (form_of exact) d status text
 DueOverData (Page name proof gap places) contents rounded d status text =
-    DueForPage places (λ rows. DueForProofFile places d rows (bytes_at contents 1) gap) (bytes_at contents 1) d status text
+    DueForPage (last_segment name) rounded places (λ rows. DueForProofFile places d rows (bytes_at contents 1) gap) (bytes_at contents 1) d status text
 DueOverData (Reduce name places) contents rounded d status text = DueForReduced places d status text
 DueOverData (Warn name) contents rounded d status text = IsWarned rounded d status text
 DueOverData (Make size show) contents rounded d status text = ⊥
@@ -70,7 +71,7 @@ DueForMake size Summary status text = (rest : List ℕ) × DueForText (DueForSum
 abbrev pub DueOver : Request → (contents : List (List ℕ)) → Status → List ℕ → Type 0
 DueOver (Make size show) contents status text = DueForMake size show status text
 DueOver (Compare first first_proof second second_proof gap places show) contents status text =
-    DueForCompared places gap show (bytes_at contents 0) (bytes_at contents 1) (bytes_at contents 2) (bytes_at contents 3) status text
+    DueForCompared (record { show = show; places = places; name = last_segment first; name2 = last_segment second }) gap (bytes_at contents 0) (bytes_at contents 1) (bytes_at contents 2) (bytes_at contents 3) status text
 DueOver request contents status text = DueForText (DueOverData request contents) (bytes_at contents 0) status text
 
 -- and for words that may be at fault

@@ -1,6 +1,6 @@
 -- The files of a request as they are read, and the numbers that words can ask for.
 use Rattle.std.specs.List.{AllByRecursion}
-use Rattle.std.specs.Prelude.{◌≡◌, ◌≤◌, ℕ, Bool, true, false, List, [], ◌∷◌, length, map, Option, Some, None, ⊤}
+use Rattle.std.specs.Prelude.{◌≡◌, ◌≤◌, ℕ, Bool, true, false, List, [], ◌∷◌, length, map, ⊤}
 use Rattle.discount_factors.specs.Factors.{IsPlaces}
 use Rattle.command_words.specs.LimitLists.{IsLimit}
 use Rattle.command_words.specs.Words.{Request, Check, CheckProof, Compare, Curve, Explain, Make, Mps, Page, Reduce, Solve, SolveFrom, Span, Table, Warn, names_of}

@@ -13,14 +13,18 @@ use Rattle.command_answers.specs.declared.proved.AcceptedProof.{AcceptedProof}
 use Rattle.command_answers.specs.declared.status.Status.{Status}
 use Rattle.command_answers.specs.declared.status.Status.TheVariants.{Done}
 use Rattle.compare_command.specs.Compare.{DueOfCheck, IsJudged}
-use Rattle.compare_command.specs.Compared.{IsOf, Judged}
+use Rattle.compare_command.specs.Compared.{AreTablesFor, IsOf, Judged, Written}
+use Rattle.command_words.specs.declared.command.CompareShow.{CompareShow}
+use Rattle.result_pages.specs.FileNames.{last_segment}
+use Rattle.osemosys_run.specs.declared.compared.CompareAsked.{CompareAsked}
 use Rattle.osemosys_run.specs.Compared.{CheckedBy}
 
--- `check` accepts the proof over the data: rows of them, and the proof with what it is worth and what `check` says of it
-pub record AcceptsOver (places gap : ℕ) (d : Data) (proof_bytes : List ℕ) (accepted : AcceptedProof) : Type 0 where
+-- `check` accepts the proof over the data: rows of them, the proof with what it is worth and what `check` says of it, and the tables of its page
+pub record AcceptsOver (show : CompareShow) (places gap : ℕ) (d : Data) (proof_bytes : List ℕ) (accepted : AcceptedProof) (tables : List ℕ) : Type 0 where
   pub made : IsMadeFor places d (λ rows. CheckedBy places gap proof_bytes d rows Done accepted.said.items)
   pub told : IsProof d.sets (all_variables d) (instances d) (records_of proof_bytes) accepted.proof
   pub worth : HasWorth d made.rows accepted.proof accepted.worth
+  pub tabled : AreTablesFor show places d made.rows accepted.proof tables
 
 -- it doesn't, and answers so
 pub record RefusesOver (places gap : ℕ) (d : Data) (proof_bytes : List ℕ) (status : Status) (text : List ℕ) : Type 0 where
@@ -28,12 +32,17 @@ pub record RefusesOver (places gap : ℕ) (d : Data) (proof_bytes : List ℕ) (s
   pub not_done : status ≢ Done
 
 -- over the text of the data file it accepts a scenario, of which these are the sets and the proof
-pub record IsKept (places gap : ℕ) (bytes proof_bytes : List ℕ) (sets : SetLists) (accepted : AcceptedProof) : Type 0 where
+pub record IsKept (show : CompareShow) (places gap : ℕ) (bytes proof_bytes : List ℕ) (sets : SetLists) (accepted : AcceptedProof) (tables : List ℕ) : Type 0 where
   pub judged : Judged
   pub is : IsJudged places (CheckedBy places gap proof_bytes) bytes proof_bytes judged
   pub of : IsOf judged sets accepted
+  pub tabled : AreTablesFor show places judged.data_of judged.rows judged.proof tables
 
 -- or it doesn't
 pub record IsUnkept (places gap : ℕ) (bytes proof_bytes : List ℕ) (status : Status) (text : List ℕ) : Type 0 where
   pub due : DueOfCheck places (CheckedBy places gap proof_bytes) bytes status text
   pub not_done : status ≢ Done
+
+-- how a comparison is written that is asked for so
+abbrev pub written_by : CompareAsked → Written
+written_by asked = record { show = asked.show; places = asked.places; name = last_segment asked.first.now; name2 = last_segment asked.second.now }

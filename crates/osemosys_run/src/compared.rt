@@ -1,21 +1,28 @@
 // What `compare` answers over the texts of two data files and the bytes of their proofs: `check` comes first, of one scenario after the other,
 // and then the comparison. The rows of the first are gone before those of the second are made.
 ghost use Rattle.std.specs.Prelude.{◌≡◌, ◌≤◌, ◌∷◌, ◌++◌, [], List, ℕ, length, map, IfOk, MatchResult};
+ghost use Rattle.std.specs.List.{AllByRecursion};
 ghost use Rattle.discount_factors.specs.Factors.{IsPlaces};
 ghost use Rattle.mathprog_data.specs.Pieces.{StandsFor};
 ghost use Rattle.command_answers.specs.Accepted.{most_bytes};
-ghost use Rattle.compare_command.specs.Compared.{IsOf, Judged as Scenario};
+ghost use Rattle.compare_command.specs.Compared.{AreTablesFor, IsOf, Judged as Scenario};
+ghost use Rattle.page_tables.specs.PageTables.{HasValuesWithin};
+ghost use Rattle.plan_files.specs.Listed.{IsListedRow, name_of_row};
+ghost use Rattle.plan_tables.specs.declared.shown.NumberForm.TheVariants.{Decimals};
 ghost use Rattle.request_files.specs.Marked.{AllHold};
 ghost use Rattle.osemosys_run.specs.Compared.{DueForCompared};
-ghost use Rattle.osemosys_run.specs.Scenarios.{AcceptsOver, IsKept, IsUnkept, RefusesOver};
+ghost use Rattle.osemosys_run.specs.Scenarios.{AcceptsOver, IsKept, IsUnkept, RefusesOver, written_by};
 
 use check_command::accepted_proof;
 use command_answers::{AcceptedProof, Answer, accept_read, made_book};
 use command_words::CompareShow;
 use compare_command::{Proved, Which, answer_compare, refuse_scenario};
 use mathprog_data::PieceReader;
-use page_command::last_segment;
+use page_tables::{Source, proof_tables};
 use param_tables::ModelData;
+use plan_tables::NumberForm;
+use proof_files::Proof;
+use result_pages::last_segment;
 use std::alloc::{AllocError, Global};
 
 /// What the words after `compare` say besides the proofs: the names of two data files, how many millionths of its bound the cost of a plan may
@@ -40,7 +47,14 @@ pub struct Pair {
 #[derive(Drop)]
 struct Judged {
     model: ModelData,
+    kept: Kept,
+}
+
+/// What is kept of an accepted proof when the rows are gone: the proof, and the tables of its page where one is written.
+#[derive(Drop)]
+struct Kept {
     accepted: AcceptedProof,
+    tables: Vec<u8>,
 }
 
 /// What is due for two scenarios whose files were read.
@@ -54,9 +68,9 @@ pub fn answer_pairs(
     requires second { (text : List ℕ) × StandsFor second.reader text × (length text ≤ most_bytes) }
     requires places { IsPlaces asked.places }
     ensures { (text text2 : List ℕ) → StandsFor first.reader text → length text ≤ most_bytes → StandsFor second.reader text2 → length text2 ≤ most_bytes
-        → IfOk result (λ answer. DueForCompared asked.entry.places asked.entry.gap asked.entry.show text first.proof.items text2 second.proof.items answer.status answer.text.items) }
+        → IfOk result (λ answer. DueForCompared (written_by asked.entry) asked.entry.gap text first.proof.items text2 second.proof.items answer.status answer.text.items) }
 {
-    match judge(alloc, first, asked.gap, asked.places)? {
+    match judge(alloc, first, asked)? {
         Ok(one) => answer_second(alloc, asked, &one, second),
         Err(said) => refuse_scenario(alloc, Which::First, said),
     }
@@ -69,24 +83,26 @@ fn answer_second(
     one: &Judged,
     second: Pair,
 ) -> Result<Answer, AllocError>
-    requires first { (scenario : Scenario) × IsOf scenario one.now.model.facts.sets one.now.accepted }
+    requires first { (scenario : Scenario) × IsOf scenario one.now.model.facts.sets one.now.kept.accepted }
     requires second { (text : List ℕ) × StandsFor second.reader text × (length text ≤ most_bytes) }
     requires places { IsPlaces asked.places }
-    ensures { (text proof text2 : List ℕ) → IsKept asked.entry.places asked.entry.gap text proof one.now.model.facts.sets one.now.accepted
+    ensures { (text proof text2 : List ℕ) → IsKept asked.entry.show asked.entry.places asked.entry.gap text proof one.now.model.facts.sets one.now.kept.accepted one.now.kept.tables.items
         → StandsFor second.reader text2 → length text2 ≤ most_bytes
-        → IfOk result (λ answer. DueForCompared asked.entry.places asked.entry.gap asked.entry.show text proof text2 second.proof.items answer.status answer.text.items) }
+        → IfOk result (λ answer. DueForCompared (written_by asked.entry) asked.entry.gap text proof text2 second.proof.items answer.status answer.text.items) }
 {
-    match judge(alloc, second, asked.gap, asked.places)? {
+    match judge(alloc, second, asked)? {
         Ok(two) => {
             let first = Proved {
                 file: last_segment(asked.first.as_bytes()),
                 sets: one.model.sets(),
-                accepted: &one.accepted,
+                accepted: &one.kept.accepted,
+                tables: one.kept.tables.as_slice(),
             };
             let second = Proved {
                 file: last_segment(asked.second.as_bytes()),
                 sets: two.model.sets(),
-                accepted: &two.accepted,
+                accepted: &two.kept.accepted,
+                tables: two.kept.tables.as_slice(),
             };
             answer_compare(alloc, asked.show, first, second)
         }
@@ -98,19 +114,18 @@ fn answer_second(
 fn judge(
     alloc: Global,
     pair: Pair,
-    gap: u32,
-    places: u8,
+    asked: CompareAsked<'_>,
 ) -> Result<Result<Judged, Answer>, AllocError>
     requires stands { (text : List ℕ) × StandsFor pair.reader text }
-    requires places { IsPlaces places }
+    requires places { IsPlaces asked.places }
     ensures { (text : List ℕ) → StandsFor pair.reader text → length text ≤ most_bytes → IfOk result (λ verdict. MatchResult verdict
-        (λ judged. IsKept places gap text pair.proof.items judged.model.facts.sets judged.accepted)
-        (λ said. IsUnkept places gap text pair.proof.items said.status said.text.items)) }
+        (λ judged. IsKept asked.entry.show asked.entry.places asked.entry.gap text pair.proof.items judged.model.facts.sets judged.kept.accepted judged.kept.tables.items)
+        (λ said. IsUnkept asked.entry.places asked.entry.gap text pair.proof.items said.status said.text.items)) }
 {
     let Pair { reader, proof } = pair;
     match accept_read(alloc, reader)? {
-        Ok(model) => match judge_over(alloc, &model, proof.as_slice(), gap, places)? {
-            Ok(accepted) => Ok(Ok(Judged { model, accepted })),
+        Ok(model) => match judge_over(alloc, &model, proof.as_slice(), asked)? {
+            Ok(kept) => Ok(Ok(Judged { model, kept })),
             Err(said) => Ok(Err(said)),
         },
         Err(said) => Ok(Err(said)),
@@ -122,17 +137,47 @@ fn judge_over(
     alloc: Global,
     model: &ModelData,
     proof: &[u8],
-    gap: u32,
-    places: u8,
-) -> Result<Result<AcceptedProof, Answer>, AllocError>
-    requires { IsPlaces places }
+    asked: CompareAsked<'_>,
+) -> Result<Result<Kept, Answer>, AllocError>
+    requires { IsPlaces asked.places }
     ensures { IfOk result (λ verdict. MatchResult verdict
-        (λ accepted. AcceptsOver places gap model.now.facts proof.now accepted)
-        (λ said. RefusesOver places gap model.now.facts proof.now said.status said.text.items)) }
+        (λ kept. AcceptsOver asked.entry.show asked.entry.places asked.entry.gap model.now.facts proof.now kept.accepted kept.tables.items)
+        (λ said. RefusesOver asked.entry.places asked.entry.gap model.now.facts proof.now said.status said.text.items)) }
 {
-    match made_book(alloc, model, places)? {
-        Ok(book) => accepted_proof(alloc, &book, model.sets(), proof, gap),
+    match made_book(alloc, model, asked.places)? {
+        Ok(book) => match accepted_proof(alloc, &book, model.sets(), proof, asked.gap)? {
+            Ok(accepted) => {
+                let source = Source {
+                    model,
+                    rows: book.rows(),
+                    places: asked.places,
+                    form: NumberForm::Decimals,
+                };
+                let tables = tables_for(alloc, source, &accepted.proof, asked.show)?;
+                Ok(Ok(Kept { accepted, tables }))
+            }
+            Err(said) => Ok(Err(said)),
+        },
         Err(answer) => Ok(Err(answer)),
+    }
+}
+
+// The tables that the page of a proof over these rows is drawn from, where a page is written.
+fn tables_for(
+    alloc: Global,
+    source: Source<'_>,
+    proof: &Proof,
+    show: CompareShow,
+) -> Result<Vec<u8>, AllocError>
+    requires form { source.form ≡ Decimals }
+    requires places { IsPlaces source.places }
+    requires listed { AllByRecursion (IsListedRow source.model.now.facts.sets) (map name_of_row source.rows.now) }
+    requires within { HasValuesWithin source.model.now.facts.sets proof.now }
+    ensures { IfOk result (λ tables. AreTablesFor show source.entry.places source.entry.model.now.facts source.entry.rows.now proof.now tables.items) }
+{
+    match show {
+        CompareShow::Text => Ok(Vec::new(alloc)),
+        CompareShow::Page => proof_tables(alloc, source, proof),
     }
 }
 

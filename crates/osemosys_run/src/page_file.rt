@@ -5,11 +5,15 @@ ghost use Rattle.check_command.specs.CheckProof.{DueForProofFile};
 ghost use Rattle.command_answers.specs.CheckedPlans.{IsBookOf, IsListedBook};
 ghost use Rattle.command_answers.specs.ShownProofs.{DueOverRows};
 ghost use Rattle.page_command.specs.Pages.{DueForPage, ShowsPage};
+ghost use Rattle.result_pages.specs.FileNames.{last_segment};
 
 use check_command::accepted_proof;
 use command_answers::{Answer, made_book};
-use page_command::{Sheet, answer_page, last_segment};
+use page_command::{Sheet, answer_page};
+use page_tables::Source;
 use param_tables::ModelData;
+use plan_tables::NumberForm;
+use result_pages::last_segment;
 use row_book::RowBook;
 use std::alloc::{AllocError, Global};
 
@@ -20,8 +24,8 @@ pub struct PageAsked<'a> {
     pub gap: u32,
 }
 
-/// What is due for the text of a file of a proof over any data that have the model's sets and values, with written factors of 6 or 9
-/// decimal places: that the rows can't be made, or what `check` says of the proof, where it doesn't accept it; or the page.
+/// What is due for the text of a file of a proof over the data of a model, with written factors of 6 or 9 decimal places: that the rows can't be
+/// made, or what `check` says of the proof, where it doesn't accept it; or the page.
 pub fn answer_paged(
     alloc: Global,
     model: &ModelData,
@@ -31,7 +35,7 @@ pub fn answer_paged(
 ) -> Result<Answer, AllocError>
     requires { IsPlaces places }
     ensures { IfOk result (λ answer.
-        DueForPage places (λ rows. DueForProofFile places model.now.facts rows proof.now asked.entry.gap) proof.now model.now.facts answer.status answer.text.items) }
+        DueForPage (last_segment asked.entry.path.now) model.now.rounded places (λ rows. DueForProofFile places model.now.facts rows proof.now asked.entry.gap) proof.now model.now.facts answer.status answer.text.items) }
 {
     match made_book(alloc, model, places)? {
         Ok(book) => answer_over(alloc, model, places, &book, proof, asked),
@@ -51,16 +55,18 @@ fn answer_over(
     requires places { IsPlaces places }
     requires listed { IsListedBook model.now.facts.sets book.now.rows book.now.vars }
     requires of_data { IsBookOf places model.now.facts book.now.rows book.now.vars }
-    ensures { IfOk result (λ answer. DueOverRows (DueForProofFile places model.now.facts book.now.rows proof.now asked.entry.gap) proof.now ShowsPage model.now.facts answer.status answer.text.items) }
+    ensures { IfOk result (λ answer. DueOverRows (DueForProofFile places model.now.facts book.now.rows proof.now asked.entry.gap) proof.now (ShowsPage (last_segment asked.entry.path.now) model.now.rounded places model.now.facts book.now.rows) model.now.facts answer.status answer.text.items) }
 {
     match accepted_proof(alloc, book, model.sets(), proof, asked.gap)? {
         Ok(accepted) => {
-            let sheet = Sheet {
-                file: last_segment(asked.path.as_bytes()),
+            let source = Source {
                 model,
                 rows: book.rows(),
                 places,
+                form: NumberForm::Decimals,
             };
+            let file = last_segment(asked.path.as_bytes());
+            let sheet = Sheet { file, source };
             answer_page(alloc, sheet, &accepted)
         }
         Err(answer) => Ok(answer),

@@ -33,7 +33,7 @@ ghost use Rattle.check_command.specs.CheckProof.{DueForProof, DueForProofFile};
 ghost use Rattle.command_words.specs.Commands.{request_of};
 ghost use Rattle.command_words.specs.WordParts.{HasSpelledParts, Part};
 ghost use Rattle.command_words.specs.Words.{asked};
-ghost use Rattle.command_words.specs.declared.command.CompareShow.{CompareShow};
+ghost use Rattle.compare_command.specs.Compared.{Written};
 ghost use Rattle.command_words.specs.declared.command.SolveMethod.{SolveMethod};
 ghost use Rattle.data_warnings.specs.Lines.{line};
 ghost use Rattle.data_warnings.specs.NoPlan.{EndsIn, excludes_plans, no_plan_ending};
@@ -203,9 +203,9 @@ pub fn osemosys<S: Shelf, K: Sink>(
         → IsPromisedTable places d bytes table (form_of exact) text }
 
     // Where `compare` ends with status 0, its line `difference` keeps what it promises of all bounds and of the least costs of both data.
-    ensures compared { (places gap : ℕ) (show : CompareShow) (bytes proof_bytes bytes2 proof_bytes2 text : List ℕ)
-        → DueForCompared places gap show bytes proof_bytes bytes2 proof_bytes2 Status.Done text
-        → IsPromisedDifference places show bytes bytes2 text }
+    ensures compared { (written : Written) (gap : ℕ) (bytes proof_bytes bytes2 proof_bytes2 text : List ℕ)
+        → DueForCompared written gap bytes proof_bytes bytes2 proof_bytes2 Status.Done text
+        → IsPromisedDifference written bytes bytes2 text }
 
     // Where one of the lines of `warn` ends in `: no plan`, whatever the names of members are, or is of a rule whose lines do, no plan exists.
     ensures no_plan { (rounded : ℕ) (d : Data) (status : Status) (text : List ℕ) → IsWarned rounded d status text → (f : Finding) → Contains (findings_over rounded d) f

@@ -1,7 +1,6 @@
 // What `table` answers over accepted data and the bytes of the file of a proof: `check` comes first, and then the table.
-ghost use Rattle.std.specs.Prelude.{◌≡◌, ℕ, IfOk};
+ghost use Rattle.std.specs.Prelude.{◌≡◌, IfOk};
 ghost use Rattle.discount_factors.specs.Factors.{IsPlaces};
-ghost use Rattle.model_sets.specs.Data.{Data};
 ghost use Rattle.check_command.specs.CheckProof.{DueForProofFile};
 ghost use Rattle.command_answers.specs.CheckedPlans.{IsBookOf, IsListedBook};
 ghost use Rattle.command_answers.specs.ShownProofs.{DueOverRows};
@@ -10,7 +9,7 @@ ghost use Rattle.table_command.specs.Tables.{DueForTable, ShowsProof, form_of};
 
 use check_command::accepted_proof;
 use command_answers::{Answer, made_book};
-use model_sets::Sets;
+use page_tables::Source;
 use param_tables::ModelData;
 use row_book::RowBook;
 use std::alloc::{AllocError, Global};
@@ -25,8 +24,7 @@ pub struct TableAsked<'a> {
     pub gap: u32,
 }
 
-/// What is due for the text of a file of a proof over any data that have the model's sets and values, with written factors of 6 or 9
-/// decimal places: the line for a name that no table has; that the rows can't be made, or what `check` says of the proof, where it doesn't
+/// What is due for the text of a file of a proof over the data of a model, with written factors of 6 or 9 decimal places: the line for a name that no table has; that the rows can't be made, or what `check` says of the proof, where it doesn't
 /// accept it; or the table.
 pub fn answer_table(
     alloc: Global,
@@ -39,11 +37,19 @@ pub fn answer_table(
     ensures { IfOk result (λ answer.
         DueForTable places (λ rows. DueForProofFile places model.now.facts rows proof.now asked.entry.gap) proof.now asked.entry.name.now (form_of asked.entry.exact) model.now.facts answer.status answer.text.items) }
 {
-    let Some(shown) = shown_named(asked.name.as_bytes()) else {
+    let Some(shown) = shown_named(asked.name.as_bytes(), model.second()) else {
         return refuse_table(alloc, asked.name);
     };
     match made_book(alloc, model, places)? {
-        Ok(book) => answer_over(alloc, &book, model.sets(), proof, shown, asked),
+        Ok(book) => {
+            let source = Source {
+                model,
+                rows: book.rows(),
+                places,
+                form: form_of(asked.exact),
+            };
+            answer_over(alloc, &book, source, proof, shown, asked.gap)
+        }
         Err(answer) => Ok(answer),
     }
 }
@@ -52,23 +58,21 @@ pub fn answer_table(
 fn answer_over(
     alloc: Global,
     book: &RowBook,
-    sets: &Sets,
+    source: Source<'_>,
     proof: &[u8],
     shown: Shown,
-    asked: TableAsked<'_>,
+    gap: u32,
 ) -> Result<Answer, AllocError>
-    requires shown { IsShowable shown }
-    requires listed { IsListedBook sets.now book.now.rows book.now.vars }
-    requires of_data { (places : ℕ) × (d : Data) × (sets.now ≡ d.sets) × IsBookOf places d book.now.rows book.now.vars }
-    ensures { (places : ℕ) (d : Data) → sets.now ≡ d.sets → IsBookOf places d book.now.rows book.now.vars
-        → IfOk result (λ answer. DueOverRows (DueForProofFile places d book.now.rows proof.now asked.entry.gap) proof.now
-        (λ said. ShowsProof d.sets book.now.rows shown (form_of asked.entry.exact)) d answer.status answer.text.items) }
+    requires places { IsPlaces source.places }
+    requires rows { source.rows.now ≡ book.now.rows }
+    requires shown { IsShowable source.model.now.facts shown }
+    requires listed { IsListedBook source.model.now.facts.sets book.now.rows book.now.vars }
+    requires of_data { IsBookOf source.places source.model.now.facts book.now.rows book.now.vars }
+    ensures { IfOk result (λ answer. DueOverRows (DueForProofFile source.entry.places source.entry.model.now.facts book.now.rows proof.now gap) proof.now
+        (λ said. ShowsProof source.entry.places source.entry.model.now.facts book.now.rows shown source.entry.form) source.entry.model.now.facts answer.status answer.text.items) }
 {
-    match accepted_proof(alloc, book, sets, proof, asked.gap)? {
-        Ok(accepted) => {
-            let form = form_of(asked.exact);
-            answer_shown(alloc, sets, book.rows(), &accepted.proof, shown, form)
-        }
+    match accepted_proof(alloc, book, source.model.sets(), proof, gap)? {
+        Ok(accepted) => answer_shown(alloc, source, &accepted.proof, shown),
         Err(answer) => Ok(answer),
     }
 }

@@ -1,2 +1,1 @@
-pub mod FileNames
 pub mod Pages

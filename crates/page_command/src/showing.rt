@@ -1,19 +1,17 @@
 // The answers of `page`: the page of a proof that `check` accepts.
-ghost use Rattle.std.specs.Prelude.{◌≡◌, IfOk};
-ghost use Rattle.exact_num.specs.Value.{value_of};
+ghost use Rattle.std.specs.Prelude.{◌≡◌, ◌++◌, IfOk, OnOk, map};
+ghost use Rattle.std.specs.List.{AllByRecursion};
 ghost use Rattle.discount_factors.specs.Factors.{IsPlaces};
-ghost use Rattle.named_equations.specs.Existence.{all_variables};
-ghost use Rattle.certified_answers.specs.Worth.{multiplier_bound, plan_cost};
-ghost use Rattle.command_answers.specs.ShownProofs.{HasWorth};
-ghost use Rattle.page_charts.specs.Openings.{BeginsWith};
-ghost use Rattle.page_command.specs.Pages.{ShowsPage};
+ghost use Rattle.plan_files.specs.Listed.{IsListedRow, name_of_row};
+ghost use Rattle.page_command.specs.Pages.{ShowsPage, count_line, page_said, status_of};
+ghost use Rattle.page_tables.specs.PageTables.{HasValuesWithin};
+ghost use Rattle.plan_tables.specs.declared.shown.NumberForm.TheVariants.{Decimals};
 
-use command_answers::{AcceptedProof, Answer, Status, Worth};
-use page_charts::page_opening;
-use param_tables::ModelData;
-use plan_page::page_text;
+use command_answers::{AcceptedProof, Answer, Status};
+use itoa::Buffer;
+use page_tables::{Source, proof_tables};
 use proof_files::Proof;
-use row_core::{Multipliers, Plan, Row};
+use result_pages::{PagePart, plan_page};
 use std::alloc::{AllocError, Global};
 
 /// What a page is made of besides the proof.
@@ -21,83 +19,66 @@ use std::alloc::{AllocError, Global};
 pub struct Sheet<'a> {
     /// The name of the data file, without its folders.
     pub file: &'a [u8],
-    pub model: &'a ModelData,
-    /// The rows of the model.
-    pub rows: &'a [Row],
-    /// How many decimal places written factors have.
-    pub places: u8,
+    /// The data and the rows, with numbers as decimals.
+    pub source: Source<'a>,
 }
 
 /// The page of a proof that `check` accepts over these rows, and its status: of an optimum its plan and its prices; of a refutation that no
-/// plan exists; of a plan with a direction that the cost falls without end, and along what. It begins with what `check` says.
+/// plan exists; of a plan with a direction that the cost falls without end, and along what. The page has what `check` says, how many numbers
+/// of the data were rounded when read, and the tables that it is drawn from.
 pub fn answer_page(
     alloc: Global,
     sheet: Sheet<'_>,
     accepted: &AcceptedProof,
 ) -> Result<Answer, AllocError>
-    requires places { IsPlaces sheet.places }
-    requires worth { HasWorth sheet.model.now.facts sheet.rows.now accepted.now.proof accepted.now.worth }
-    ensures { IfOk result (λ answer. ShowsPage accepted.now.said.items accepted.now.proof answer.status answer.text.items) }
+    requires form { sheet.source.form ≡ Decimals }
+    requires places { IsPlaces sheet.source.places }
+    requires listed { AllByRecursion (IsListedRow sheet.source.model.now.facts.sets) (map name_of_row sheet.source.rows.now) }
+    requires within { HasValuesWithin sheet.source.model.now.facts.sets accepted.now.proof }
+    ensures { IfOk result (λ answer. ShowsPage sheet.entry.file.now sheet.entry.source.model.now.rounded sheet.entry.source.places sheet.entry.source.model.now.facts sheet.entry.source.rows.now
+        accepted.now.said.items accepted.now.proof answer.status answer.text.items) }
 {
-    let said = accepted.said.as_slice();
-    match &accepted.proof {
-        Proof::Optimum { plan, multipliers } => match accepted.worth {
-            Some(worth) => show_optimum(alloc, sheet, said, plan, multipliers, worth),
-            None => unreachable!(),
-        },
-        Proof::Refutation { .. } => {
-            let answer = plan_page::Answer::Infeasible;
-            show(alloc, sheet, said, Status::Infeasible, &answer)
-        }
-        Proof::Descent { direction, .. } => {
-            let answer = plan_page::Answer::Unbounded { direction };
-            show(alloc, sheet, said, Status::Unbounded, &answer)
-        }
+    let source = sheet.source;
+    let rounded = source.model.rounded();
+    let said = page_said(alloc, &accepted.said, rounded, source.places)?;
+    let tables = proof_tables(alloc, source, &accepted.proof)?;
+    let part = PagePart {
+        name: sheet.file,
+        said: &said,
+        tables: &tables,
+    };
+    let text = plan_page(alloc, part)?;
+    let status = status_of(&accepted.proof);
+    Ok(Answer { status, text })
+}
+
+// The status by what a proof shows.
+fn status_of(proof: &Proof) -> Status
+    ensures { result ≡ status_of proof.now }
+{
+    match proof {
+        Proof::Optimum { .. } => Status::Done,
+        Proof::Refutation { .. } => Status::Infeasible,
+        Proof::Descent { .. } => Status::Unbounded,
     }
 }
 
-// The page of a plan that costs so much, and of multipliers that prove such a bound.
-fn show_optimum(
-    alloc: Global,
-    sheet: Sheet<'_>,
-    said: &[u8],
-    plan: &Plan,
-    multipliers: &Multipliers,
-    worth: Worth,
-) -> Result<Answer, AllocError>
-    requires places { IsPlaces sheet.places }
-    requires cost { value_of worth.cost ≡ plan_cost (all_variables sheet.model.now.facts) plan.now }
-    requires bound { value_of worth.bound ≡ multiplier_bound sheet.rows.now multipliers.now }
-    ensures { IfOk result (λ answer. (answer.status ≡ Status.Done) × BeginsWith said.now answer.text.items) }
+// What is said on the page: what `check` says, how many numbers were rounded, and how many decimal places written factors have.
+fn page_said(alloc: Global, said: &[u8], rounded: u64, places: u8) -> Result<Vec<u8>, AllocError>
+    ensures { IfOk result (λ text. text.items ≡ page_said said.now rounded places) }
 {
-    let answer = plan_page::Answer::Solved {
-        plan,
-        multipliers,
-        cost: worth.cost,
-        bound: worth.bound,
-    };
-    show(alloc, sheet, said, Status::Done, &answer)
+    let mut text = Vec::from_slice(alloc, said)?;
+    push_count(&mut text, b"rounded ", rounded)?;
+    push_count(&mut text, b"places ", u64::from(places))?;
+    Ok(text)
 }
 
-// The page of an answer, with this status.
-fn show(
-    alloc: Global,
-    sheet: Sheet<'_>,
-    said: &[u8],
-    status: Status,
-    answer: &plan_page::Answer<'_>,
-) -> Result<Answer, AllocError>
-    requires { IsPlaces sheet.places }
-    ensures { IfOk result (λ shown. (shown.status ≡ status) × BeginsWith said.now shown.text.items) }
+// Appends a line of a word and a number.
+fn push_count(out: &mut Vec<u8>, word: &[u8], n: u64) -> Result<(), AllocError>
+    ensures { OnOk result (out.new.items ≡ out.old.items ++ count_line word.now n) }
 {
-    let mut text = page_opening(alloc, said)?;
-    let Sheet {
-        file,
-        model,
-        rows,
-        places,
-    } = sheet;
-    let page = page_text(alloc, file, model, rows, answer, places)?;
-    text.extend_from_slice(page.as_slice())?;
-    Ok(Answer { status, text })
+    let mut digits = Buffer::new();
+    out.extend_from_slice(word)?;
+    out.extend_from_slice(digits.format(n).as_bytes())?;
+    out.extend_from_slice(b"\n")
 }

@@ -3,6 +3,7 @@ ghost use Rattle.std.specs.Prelude.{◌≡◌, IfOk, map};
 ghost use Rattle.std.specs.List.{AllByRecursion};
 ghost use Rattle.mps_writer.specs.MpsText.{line};
 ghost use Rattle.plan_files.specs.Listed.{IsListedRow, name_of_row};
+ghost use Rattle.discount_factors.specs.Factors.{IsPlaces};
 ghost use Rattle.proof_files.specs.PlansWithin.{HasPlanWithin};
 ghost use Rattle.row_core.specs.NameTexts.{VariableIsWithin};
 ghost use Rattle.table_command.specs.ShownTables.{IsShowable, shown_text};
@@ -10,11 +11,12 @@ ghost use Rattle.table_command.specs.Tables.{ShowsProof, form_of, unknown_table_
 
 use crate::shown::Shown;
 use command_answers::{Answer, Refusal, Status};
-use model_sets::Sets;
+use data_tables::data_text;
+use page_tables::{Source, plan_tables};
 use plan_tables::{NumberForm, table_text};
 use price_tables::price_text;
 use proof_files::Proof;
-use row_core::{Multipliers, Plan, Row};
+use row_core::{Multipliers, Plan};
 use std::alloc::{AllocError, Global};
 
 /// The form of numbers: fractions where they are to be exact, else decimals.
@@ -32,20 +34,19 @@ pub fn form_of(exact: bool) -> NumberForm
 /// refutation and of a plan with a direction, which have no table, what they show.
 pub fn answer_shown(
     alloc: Global,
-    sets: &Sets,
-    rows: &[Row],
+    source: Source<'_>,
     proof: &Proof,
     shown: Shown,
-    form: NumberForm,
 ) -> Result<Answer, AllocError>
-    requires shown { IsShowable shown }
-    requires listed { AllByRecursion (IsListedRow sets.now) (map name_of_row rows.now) }
-    requires within { HasPlanWithin sets.now proof.now }
-    ensures { IfOk result (λ answer. ShowsProof sets.now rows.now shown form proof.now answer.status answer.text.items) }
+    requires places { IsPlaces source.places }
+    requires shown { IsShowable source.model.now.facts shown }
+    requires listed { AllByRecursion (IsListedRow source.model.now.facts.sets) (map name_of_row source.rows.now) }
+    requires within { HasPlanWithin source.model.now.facts.sets proof.now }
+    ensures { IfOk result (λ answer. ShowsProof source.entry.places source.entry.model.now.facts source.entry.rows.now shown source.entry.form proof.now answer.status answer.text.items) }
 {
     match proof {
         Proof::Optimum { plan, multipliers } => {
-            show_optimum(alloc, sets, rows, plan, multipliers, shown, form)
+            show_optimum(alloc, source, plan, multipliers, shown)
         }
         Proof::Refutation { .. } => tell(alloc, Status::Infeasible, b"accepted infeasible"),
         Proof::Descent { .. } => tell(alloc, Status::Unbounded, b"accepted unbounded"),
@@ -55,22 +56,30 @@ pub fn answer_shown(
 // What is shown of a plan and of multipliers.
 fn show_optimum(
     alloc: Global,
-    sets: &Sets,
-    rows: &[Row],
+    source: Source<'_>,
     plan: &Plan,
     multipliers: &Multipliers,
     shown: Shown,
-    form: NumberForm,
 ) -> Result<Answer, AllocError>
-    requires shown { IsShowable shown }
-    requires listed { AllByRecursion (IsListedRow sets.now) (map name_of_row rows.now) }
-    requires within { AllByRecursion (λ e. VariableIsWithin sets.now e.0) plan.now }
+    requires places { IsPlaces source.places }
+    requires shown { IsShowable source.model.now.facts shown }
+    requires listed { AllByRecursion (IsListedRow source.model.now.facts.sets) (map name_of_row source.rows.now) }
+    requires within { AllByRecursion (λ e. VariableIsWithin source.model.now.facts.sets e.0) plan.now }
     ensures { IfOk result (λ answer. (answer.status ≡ Status.Done)
-        × (answer.text.items ≡ shown_text sets.now form rows.now plan.now multipliers.now shown)) }
+        × (answer.text.items ≡ shown_text source.entry.form source.entry.places source.entry.model.now.facts source.entry.rows.now plan.now multipliers.now shown)) }
 {
+    let Source {
+        model,
+        rows,
+        places,
+        form,
+    } = source;
+    let sets = model.sets();
     let text = match shown {
         Shown::Values(table) => table_text(alloc, sets, plan, table, form)?,
         Shown::Prices(table) => price_text(alloc, sets, rows, multipliers, table, form)?,
+        Shown::Data(table) => data_text(alloc, model, places, table, form)?,
+        Shown::Page => plan_tables(alloc, source, plan, multipliers)?,
     };
     let status = Status::Done;
     Ok(Answer { status, text })

@@ -1,4 +1,5 @@
-use Rattle.osemosys_run.proofs.Common.{◌≡◌, ◌∷◌, [], List, ℕ, ap, map, refl, subst, sym, IfOk-weaker, DueForText, request_of, Request, Mps, Command, DueForCompared, DueOver, DueOverData, bytes_at, IsReplyTo, IsRead}
+use Rattle.osemosys_run.proofs.Common.{◌≡◌, ◌∷◌, [], List, ℕ, ap, map, refl, subst, sym, IfOk-weaker, DueForText, request_of, Request, Mps, Command, Written, DueForCompared, DueOver, DueOverData, bytes_at, IsReplyTo, IsRead}
+use Rattle.result_pages.specs.FileNames.{last_segment}
 use Rattle.osemosys_run.proofs.ReplyLaws.{told_reply}
 use Rattle.osemosys_run.proofs.RequestLaws.{has_one_model, of_one_model, one_read, two_read}
 use Rattle.osemosys_run.proofs.answering.answer.Goals as goal
@@ -87,12 +88,13 @@ returns-in-Compare g c = λ contents read.
     let held1 = c.last_pair-first.ensures.held [] two.proof held2.0 in
     let answer = c.in_ok-answer_pairs-in-Compare.field-0 in
     let due = c.in_ok-answer_pairs-in-Compare.ensures two.text two.text2 fed1.1 two.short fed2.1 two.short2 in
-    let named : DueForCompared compare.places compare.gap compare.show two.text two.proof two.text2 two.proof2 answer.status answer.text.items =
-    subst (λ (proof : List ℕ). DueForCompared compare.places compare.gap compare.show two.text proof two.text2 two.proof2 answer.status answer.text.items) held1.1
-    (subst (λ (proof : List ℕ). DueForCompared compare.places compare.gap compare.show two.text c.last_pair-first.result.proof.items two.text2 proof answer.status answer.text.items) held2.1 due) in
-    let over : DueForCompared compare.places compare.gap compare.show (bytes_at contents 0) (bytes_at contents 1) (bytes_at contents 2) (bytes_at contents 3) answer.status answer.text.items =
+    let written : Written = record { show = compare.show; places = compare.places; name = last_segment compare.first.now; name2 = last_segment compare.second.now } in
+    let named : DueForCompared written compare.gap two.text two.proof two.text2 two.proof2 answer.status answer.text.items =
+    subst (λ (proof : List ℕ). DueForCompared written compare.gap two.text proof two.text2 two.proof2 answer.status answer.text.items) held1.1
+    (subst (λ (proof : List ℕ). DueForCompared written compare.gap two.text c.last_pair-first.result.proof.items two.text2 proof answer.status answer.text.items) held2.1 due) in
+    let over : DueForCompared written compare.gap (bytes_at contents 0) (bytes_at contents 1) (bytes_at contents 2) (bytes_at contents 3) answer.status answer.text.items =
     subst
-    (λ (all : List (List ℕ)). DueForCompared compare.places compare.gap compare.show (bytes_at all 0) (bytes_at all 1) (bytes_at all 2) (bytes_at all 3) answer.status answer.text.items)
+    (λ (all : List (List ℕ)). DueForCompared written compare.gap (bytes_at all 0) (bytes_at all 1) (bytes_at all 2) (bytes_at all 3) answer.status answer.text.items)
     (sym two.is) named in
     IfOk-weaker c.told-in-Compare.result _ _
     (λ reply is.

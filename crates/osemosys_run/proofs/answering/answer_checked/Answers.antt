@@ -1,4 +1,5 @@
 use Rattle.osemosys_run.proofs.Common.{◌∷◌, List, ℕ, Option, map, subst, option_map, IfOk, DueForCheck, DueForProof, DueForProofFile, DueForPage, DueForTable, form_of, bytes_at}
+use Rattle.result_pages.specs.FileNames.{last_segment}
 use Rattle.osemosys_run.proofs.RequestLaws.{as_asked}
 use Rattle.osemosys_run.proofs.answering.answer_checked.Goals as goal
 
@@ -32,5 +33,5 @@ returns-in-Page c = λ text.
     let d = c.args.model.now.facts in
     let page = c.in-Page in
     as_asked c.args.command _ (text ∷ _) _ d c.answer_paged.result page.is
-    (subst (λ (proof : List ℕ). IfOk c.answer_paged.result (λ answer. DueForPage page.places (λ rows. DueForProofFile page.places d rows proof page.gap) proof d answer.status answer.text.items)) c.bytes_at-first.ensures
+    (subst (λ (proof : List ℕ). IfOk c.answer_paged.result (λ answer. DueForPage (last_segment page.file.now) c.args.model.now.rounded page.places (λ rows. DueForProofFile page.places d rows proof page.gap) proof d answer.status answer.text.items)) c.bytes_at-first.ensures
     c.answer_paged.ensures)

@@ -1,4 +1,6 @@
-use Rattle.osemosys_run.proofs.Common.{inl, inr, sym, subst, IfOk-weaker, MatchResult-at_err, MatchResult-at_ok, SetLists, IsOf, Second}
+use Rattle.osemosys_run.proofs.Common.{◌≡◌, ℕ, List, inl, inr, ap, sym, ◌∙◌, subst, IfOk-weaker, MatchResult-at_err, MatchResult-at_ok, SetLists, AreTablesFor, IsOf, Second}
+use Rattle.compare_command.specs.Compared.{Compares}
+use Rattle.result_pages.specs.FileNames.{last_segment}
 use Rattle.osemosys_run.proofs.JudgedScenarios.{refused}
 use Rattle.osemosys_run.proofs.compared.answer_second.Goals as goal
 
@@ -19,11 +21,25 @@ answer_compare-requires-clause-second c =
 pub returns-in-Ok : goal.returns-in-Ok
 returns-in-Ok c = λ text proof text2 kept stands2 short2.
     let kept2 = MatchResult-at_ok _ _ c.in-Ok.two c.in-Ok.is (c.in_ok-two.ensures text2 stands2 short2) in
-    let of = subst (λ (sets : SetLists). IsOf kept.judged sets c.args.one.now.accepted) (sym c.sets.ensures.sets) kept.of in
-    let of2 = subst (λ (sets : SetLists). IsOf kept2.judged sets c.in-Ok.two.accepted) (sym c.sets-in-Ok.ensures.sets) kept2.of in
+    let asked = c.args.asked in
+    let of = subst (λ (sets : SetLists). IsOf kept.judged sets c.args.one.now.kept.accepted) (sym c.sets.ensures.sets) kept.of in
+    let of2 = subst (λ (sets : SetLists). IsOf kept2.judged sets c.in-Ok.two.kept.accepted) (sym c.sets-in-Ok.ensures.sets) kept2.of in
+    let tabled = subst (AreTablesFor asked.show asked.places kept.judged.data_of kept.judged.rows kept.judged.proof) (sym c.as_slice.ensures.value) kept.tabled in
+    let tabled2 = subst (AreTablesFor asked.show asked.places kept2.judged.data_of kept2.judged.rows kept2.judged.proof) (sym c.as_slice-in-Ok.ensures.value) kept2.tabled in
+    let name : c.last_segment.result.now ≡ last_segment asked.first.now = c.last_segment.ensures ∙ ap last_segment c.as_bytes.ensures.value in
+    let name2 : c.last_segment-in-Ok.result.now ≡ last_segment asked.second.now = c.last_segment-in-Ok.ensures ∙ ap last_segment c.as_bytes-in-Ok.ensures.value in
     IfOk-weaker c.answer_compare.result _ _
-    (λ answer compares. inr (inr (record { one = kept.judged; two = kept2.judged; first = kept.is; second = kept2.is; compares = compares })))
-    (c.answer_compare.ensures kept.judged kept2.judged of of2)
+    (λ answer compares.
+    inr (inr (record {
+      one = kept.judged;
+      two = kept2.judged;
+      first = kept.is;
+      second = kept2.is;
+      compares =
+          subst (λ (n : List ℕ). Compares (record { show = asked.show; places = asked.places; name = n; name2 = last_segment asked.second.now }) kept.judged kept2.judged answer.status answer.text.items) name
+          (subst (λ (n : List ℕ). Compares (record { show = asked.show; places = asked.places; name = c.last_segment.result.now; name2 = n }) kept.judged kept2.judged answer.status answer.text.items) name2 compares);
+    })))
+    (c.answer_compare.ensures asked.places kept.judged kept2.judged of tabled of2 tabled2)
 
 pub returns-in-Err : goal.returns-in-Err
 returns-in-Err c = λ text proof text2 kept stands2 short2.

@@ -7,17 +7,17 @@ returns-in-Ok-2 c = λ text stands short.
     let d = c.in-Ok.model.facts in
     let found : (accepted : Accepted text d) × (c.in-Ok.model.rounded ≡ accepted.blocks.rounded) =
     MatchResult-at_ok _ _ c.in-Ok.model c.in-Ok.is (c.in_ok-model.ensures text stands short) in
-    let over = subst (λ (bytes : List ℕ). AcceptsOver c.args.places c.args.gap d bytes c.in-Ok-2.accepted) c.as_slice.ensures.value
-    (MatchResult-at_ok _ _ c.in-Ok-2.accepted c.in-Ok-2.is c.in_ok-accepted-in-Ok.ensures) in
-    kept c.args.places c.args.gap text c.args.pair.proof.items d d.sets c.in-Ok-2.accepted found.0 refl over
+    let over = subst (λ (bytes : List ℕ). AcceptsOver c.args.asked.show c.args.asked.places c.args.asked.gap d bytes c.in-Ok-2.kept.accepted c.in-Ok-2.kept.tables.items) c.as_slice.ensures.value
+    (MatchResult-at_ok _ _ c.in-Ok-2.kept c.in-Ok-2.is c.in_ok-kept-in-Ok.ensures) in
+    kept c.args.asked.show c.args.asked.places c.args.asked.gap text c.args.pair.proof.items d d.sets c.in-Ok-2.kept.accepted c.in-Ok-2.kept.tables.items found.0 refl over
 
 pub returns-in-Ok : goal.returns-in-Ok
 returns-in-Ok c = λ text stands short.
     let d = c.in-Ok.model.facts in
     let found : (accepted : Accepted text d) × (c.in-Ok.model.rounded ≡ accepted.blocks.rounded) =
     MatchResult-at_ok _ _ c.in-Ok.model c.in-Ok.is (c.in_ok-model.ensures text stands short) in
-    let over = subst (λ (bytes : List ℕ). RefusesOver c.args.places c.args.gap d bytes c.in-Err-2.said.status c.in-Err-2.said.text.items) c.as_slice.ensures.value
-    (MatchResult-at_err _ _ c.in-Err-2.said c.in-Err-2.is c.in_ok-accepted-in-Ok.ensures) in
+    let over = subst (λ (bytes : List ℕ). RefusesOver c.args.asked.places c.args.asked.gap d bytes c.in-Err-2.said.status c.in-Err-2.said.text.items) c.as_slice.ensures.value
+    (MatchResult-at_err _ _ c.in-Err-2.said c.in-Err-2.is c.in_ok-kept-in-Ok.ensures) in
     record { due = inr (d, found.0, over.due); not_done = over.not_done }
 
 pub returns : goal.returns

@@ -1,4 +1,4 @@
-use Rattle.osemosys_run.proofs.Common.{◌≡◌, ◌∙◌, ℕ, List, inl, inr, refl, sym, ap, subst, ⊤, Var, rows_text, TellsFail, Status, Done, sent, DueForEquations, IsTold}
+use Rattle.osemosys_run.proofs.Common.{◌∙◌, List, inl, inr, refl, sym, ap, ⊤, Var, rows_text, TellsFail, Done, sent, DueForEquations, IsTold}
 use Rattle.row_core.specs.Contents.{RowContents}
 use Rattle.row_book.specs.Feeds.{AreContentsOf}
 use Rattle.command_answers.proofs.BookEnds.{refused_told}

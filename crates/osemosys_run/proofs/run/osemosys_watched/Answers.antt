@@ -1,4 +1,4 @@
-use Rattle.osemosys_run.proofs.Common.{◌≡◌, IsSome, Some, arith, map, List, ℕ, Result, Ok, ap, inl, inr, refl, subst, sym, ◌∙◌, string_bytes, Request, asked, Sight, seen, AskForEquations, Due, Rose, DueForReply, IsAsMade, IsForEquations, Caused, Sent, sent}
+use Rattle.osemosys_run.proofs.Common.{◌≡◌, IsSome, Some, arith, map, List, ℕ, Ok, ap, inl, inr, refl, subst, sym, ◌∙◌, string_bytes, Request, asked, Sight, seen, AskForEquations, Due, Rose, DueForReply, IsAsMade, IsForEquations, Caused, Sent, sent}
 use Rattle.osemosys_run.proofs.RunLaws.{delivered-complete, delivered-failed_read, delivered-failed_write, delivered-read, delivered-whole, delivers-weaker, due-caused}
 use Rattle.osemosys_run.proofs.run.osemosys_watched.Goals as goal
 

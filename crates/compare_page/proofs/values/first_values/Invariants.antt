@@ -1,6 +1,0 @@
--- The years so far.
-use Rattle.compare_page.proofs.Common.{◌≡◌, take, first_values}
-use Rattle.compare_page.proofs.values.first_values.Given as goal
-
-abbrev pub invariant-loop-year : goal.invariant-loop-year
-invariant-loop-year l = l.values.items ≡ first_values l.plan l.kind l.at (take l.year-index l.years)

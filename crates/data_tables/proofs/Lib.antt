@@ -1,0 +1,4 @@
+mod Examples
+pub mod RatioLaws
+pub mod WalkLaws
+pub mod WrittenLaws

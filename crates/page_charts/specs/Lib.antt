@@ -1,9 +1,0 @@
-pub mod Escaping
-pub mod Folds
-pub mod Frames
-pub mod Looks
-pub mod Numbers
-pub mod Openings
-pub mod Shapes
-pub mod Ticks
-pub mod Values

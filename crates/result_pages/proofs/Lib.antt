@@ -1,0 +1,3 @@
+mod Examples
+mod FileNameLaws
+pub mod TextLaws
