@@ -5,6 +5,7 @@ import os
 import subprocess
 import sys
 
+from chains import chains
 from mps import MIB, measured
 from planning import model
 
@@ -14,11 +15,12 @@ PEER_LONGEST = int(os.environ.get("PEER_SECONDS", "600"))
 GAP = ["--gap", "10"]
 PIVOTS = ["--pivots", "1000000"]
 
+# Of each model what makes its text, from a seed.
 LARGE = {
-    "three regions, 20 years, 8 slices": dict(regions=3, years=20, slices=8, copies=2, trade=True, reserve=True, renewable=0.2),
-    "three regions, 30 years, 24 slices": dict(regions=3, years=30, slices=24, copies=2, trade=True, reserve=True, renewable=0.2),
-    "200 technologies, 40 years, 12 slices": dict(years=40, slices=12, copies=25, renewable=0.3),
-    "near four million entries": dict(regions=3, years=40, slices=48, copies=3, trade=True, reserve=True, renewable=0.2),
+    "three regions, 20 years, 8 slices": lambda seed: model(seed, regions=3, years=20, slices=8, copies=2, trade=True, reserve=True, renewable=0.2),
+    "two regions of whole chains, 30 years, 24 slices": lambda seed: chains(seed, regions=2, years=30, slices=24),
+    "200 technologies, 40 years, 12 slices": lambda seed: model(seed, years=40, slices=12, copies=25, renewable=0.3),
+    "near four million entries": lambda seed: model(seed, regions=3, years=40, slices=48, copies=3, trade=True, reserve=True, renewable=0.2),
 }
 
 
@@ -100,10 +102,10 @@ def by_peers(folder, kind, text):
     return found
 
 
-def one(program, folder, name, case, seed):
+def one(program, folder, name, text, seed):
     path = folder + "/data"
     with open(path, "w") as file:
-        file.write(model(seed, **case))
+        file.write(text(seed))
     print(f"{name}: {os.path.getsize(path):,} bytes of data", flush=True)
     texts = {}
     for command in ("mps", "reduce"):
@@ -128,9 +130,9 @@ def one(program, folder, name, case, seed):
 def main():
     program, folder, words = sys.argv[1], sys.argv[2], sys.argv[3:]
     print(f"  {'':44} {'status':>6} {'seconds':>9} {'memory':>11}")
-    for number, (name, case) in enumerate(LARGE.items()):
+    for number, (name, text) in enumerate(LARGE.items()):
         if not words or any(word in name for word in words):
-            one(program, folder, name, case, 200 + number)
+            one(program, folder, name, text, 200 + number)
 
 
 main()

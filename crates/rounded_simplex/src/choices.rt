@@ -4,9 +4,7 @@ use crate::state::State;
 use sparse_factors::at;
 
 /// A pivot is at least this.
-const LEAST_PIVOT: f64 = 5.9604644775390625e-8;
-/// By how much a reduced cost may fall below 0 in the dual ratio test.
-const COST_TOLERANCE: f64 = 1e-9;
+pub(crate) const LEAST_PIVOT: f64 = 5.9604644775390625e-8;
 
 /// Where a pivot stands, and how large it is.
 #[derive(Clone, Copy)]
@@ -53,44 +51,6 @@ impl State {
     pub(crate) fn leaving_slot(&mut self) -> Option<usize> {
         self.blocks
             .best(&self.values, &self.weights, -self.tolerance)
-    }
-
-    /// The variable to enter in the dual phase, by Harris's test: the greatest pivot among the steps that keep the
-    /// reduced costs within their tolerance.
-    pub(crate) fn entering_in_row(&self) -> Option<Pivot> {
-        let most = self.longest_dual_step();
-        let mut best = None;
-        let mut greatest = 0.0;
-        for variable in self.row_variables.iter() {
-            let size = -self.row.value(*variable);
-            if size > LEAST_PIVOT
-                && size > greatest
-                && at_least_zero(at(&self.reduced_costs, *variable, 0.0)) <= most * size
-            {
-                greatest = size;
-                best = Some(Pivot {
-                    at: *variable,
-                    size,
-                });
-            }
-        }
-        best
-    }
-
-    /// How far the dual step may go.
-    fn longest_dual_step(&self) -> f64 {
-        let mut most = f64::MAX;
-        for variable in self.row_variables.iter() {
-            let size = -self.row.value(*variable);
-            if size > LEAST_PIVOT {
-                let step = (at_least_zero(at(&self.reduced_costs, *variable, 0.0)) + COST_TOLERANCE)
-                    / size;
-                if step < most {
-                    most = step;
-                }
-            }
-        }
-        most
     }
 
     /// The variable to enter in the primal phase: the greatest square of a negative reduced cost beside its weight.

@@ -86,7 +86,7 @@ impl State {
             return Ok(Turn::Reweighed);
         }
         self.make_row()?;
-        let Some(entering) = self.entering_in_row() else {
+        let Some(entering) = self.entering_in_row()? else {
             return Ok(Turn::Ended(End::Blocked));
         };
         self.make_column(entering.at)?;
@@ -124,8 +124,8 @@ impl State {
         } else {
             reduced / entering.size
         };
-        for place in 0..self.row_variables.len() {
-            let variable = at(&self.row_variables, place, usize::MAX);
+        for place in 0..self.row.listed().len() {
+            let variable = at(self.row.listed(), place, usize::MAX);
             let reduced = at(&self.reduced_costs, variable, 0.0) + step * self.row.value(variable);
             put(&mut self.reduced_costs, variable, reduced);
             if reduced < 0.0 && variable != entering.at {

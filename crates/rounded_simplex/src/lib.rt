@@ -10,7 +10,9 @@ mod ending;
 mod phases;
 mod primal;
 mod program;
+mod ratio_test;
 mod scaling;
+mod shared_rows;
 mod solving;
 mod state;
 

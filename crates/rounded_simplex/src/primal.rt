@@ -85,7 +85,7 @@ impl State {
     ) -> Result<(), AllocError> {
         let step = at(&self.reduced_costs, entering, 0.0) / leaving.size;
         let weight = at(weights, entering, 1.0);
-        for variable in self.row_variables.iter() {
+        for variable in self.row.listed() {
             if *variable != entering {
                 let entry = self.row.value(*variable);
                 let reduced = at(&self.reduced_costs, *variable, 0.0) - step * entry;

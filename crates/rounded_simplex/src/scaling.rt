@@ -3,6 +3,7 @@
 ghost use Rattle.std.specs.Prelude.{◌≤◌, length};
 
 use crate::program::LinearProgram;
+use crate::shared_rows::SharedRows;
 use sparse_factors::{Lists, at, put};
 use std::alloc::{AllocError, Global};
 
@@ -15,7 +16,7 @@ pub(crate) struct Scaled {
     pub(crate) rows: usize,
     pub(crate) columns: usize,
     pub(crate) by_column: Lists,
-    pub(crate) by_row: Lists,
+    pub(crate) by_row: SharedRows,
     pub(crate) right_sides: Vec<f64>,
     pub(crate) raised_costs: Vec<f64>,
     pub(crate) lowered_costs: Vec<f64>,
@@ -36,7 +37,7 @@ impl Scaled {
         Ok(Scaled {
             rows,
             columns,
-            by_row: by_column.transposed(alloc, rows)?,
+            by_row: SharedRows::new(alloc, &by_column, rows, columns)?,
             by_column,
             right_sides: quotients(alloc, &program.right_sides, &row_sizes)?,
             raised_costs: products(alloc, &program.raised_costs, &column_scales)?,

@@ -2,6 +2,7 @@
 
 use crate::blocks::Blocks;
 use crate::candidates::Candidates;
+use crate::ratio_test::Ratio;
 use crate::scaling::Scaled;
 use sparse_factors::{Basis, Entry, Factors, Lists, SparseVector, at, factor, put};
 use std::alloc::{AllocError, Global};
@@ -40,9 +41,10 @@ pub(crate) struct State {
     pub(crate) inverse_row: SparseVector,
     /// That row while it was divided by U.
     row_in_upper: Vec<Entry>,
-    /// The leaving slot's row of the tableau, by variable, and its nonbasic variables.
+    /// The leaving slot's row of the tableau, by variable, of which the nonbasic ones are listed.
     pub(crate) row: SparseVector,
-    pub(crate) row_variables: Vec<usize>,
+    /// What the ratio test of the dual phase looks at in that row.
+    pub(crate) ratios: Vec<Ratio>,
     /// The entering variable's column of the tableau, by slot.
     pub(crate) column: SparseVector,
     /// That column before U.
@@ -174,7 +176,7 @@ impl State {
             inverse_row: vectors.inverse_row,
             row_in_upper: Vec::new(alloc),
             row: vectors.row,
-            row_variables: Vec::new(alloc),
+            ratios: Vec::new(alloc),
             column: vectors.column,
             spike: vectors.spike,
             steepest: vectors.steepest,
@@ -366,24 +368,10 @@ impl State {
     /// Makes the row of the tableau from the row of the inverse.
     pub(crate) fn make_row(&mut self) -> Result<(), AllocError> {
         self.row.clear();
-        for slot in self.inverse_row.listed() {
-            let value = self.inverse_row.value(*slot);
-            let row = self.basis.row_of_slot(*slot);
-            let slack = self.basis.slack(row);
-            if !self.basis.is_basic(slack) {
-                let sum = self.row.value(slack) + value;
-                self.row.set(slack, sum);
-            }
-            self.row.subtract(self.program.by_row.list(row), -value);
-        }
-        self.row.gather()?;
-        self.row_variables.clear();
-        for variable in self.row.listed() {
-            if !self.basis.is_basic(*variable) {
-                self.row_variables.push(*variable)?;
-            }
-        }
-        Ok(())
+        self.program
+            .by_row
+            .add_product(&self.inverse_row, &self.basis, &mut self.row)?;
+        self.basis.gather_nonbasic(&mut self.row)
     }
 
     /// Makes the column of the tableau of a variable.
@@ -405,7 +393,8 @@ impl State {
     /// Makes what the weights of dual steepest edge need.
     pub(crate) fn make_steepest(&mut self) -> Result<(), AllocError> {
         self.steepest.copy_listed(&self.inverse_row)?;
-        self.factors.ftran(&mut self.steepest)
+        self.factors.ftran_unlisted(&mut self.steepest);
+        Ok(())
     }
 
     /// Puts a variable into the basis in the place of the one in a slot; the value and the weight go to the new slot.

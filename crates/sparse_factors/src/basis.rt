@@ -1,6 +1,8 @@
 //! Which variables are basic, and where.
 
 use crate::arrays::{at, filled, put};
+use crate::marks::Marks;
+use crate::sparse_vector::SparseVector;
 use std::alloc::{AllocError, Global};
 
 /// The basis of a linear program: variable j below the number of columns is column j, and then comes the slack of each row.
@@ -15,6 +17,8 @@ pub struct Basis {
     room: usize,
     variables: Vec<Option<usize>>,
     slots: Vec<Option<usize>>,
+    /// The variables that have a slot.
+    basic: Marks,
     slot_of_row: Vec<usize>,
     row_of_slot: Vec<usize>,
 }
@@ -66,6 +70,7 @@ impl Basis {
             room,
             variables: filled(alloc, None, room)?,
             slots: filled(alloc, None, columns.saturating_add(rows))?,
+            basic: Marks::none(alloc, columns.saturating_add(rows))?,
             slot_of_row: filled(alloc, 0, rows)?,
             row_of_slot: filled(alloc, 0, rows)?,
         };
@@ -117,7 +122,12 @@ impl Basis {
     /// Whether a variable is basic.
     #[inline]
     pub fn is_basic(&self, variable: usize) -> bool {
-        self.slot(variable).is_some()
+        self.basic.contains(variable)
+    }
+
+    /// Lists the nonbasic variables at which a vector's numbers aren't 0, and makes all others 0.
+    pub fn gather_nonbasic(&self, vector: &mut SparseVector) -> Result<(), AllocError> {
+        vector.gather_outside(&self.basic)
     }
 
     /// The slot whose pivot stood in a row when the factors were made.
@@ -136,12 +146,14 @@ impl Basis {
     pub fn place(&mut self, slot: usize, variable: usize) {
         put(&mut self.variables, slot, Some(variable));
         put(&mut self.slots, variable, Some(slot));
+        self.basic.insert(variable);
     }
 
     /// Takes the slot from the variable that has it.
     pub fn retire(&mut self, slot: usize) {
         if let Some(variable) = self.variable(slot) {
             put(&mut self.slots, variable, None);
+            self.basic.remove(variable);
         }
         put(&mut self.variables, slot, None);
     }
@@ -160,5 +172,6 @@ impl Basis {
         for slot in self.slots.iter_mut() {
             *slot = None;
         }
+        self.basic.clear();
     }
 }

@@ -53,6 +53,11 @@ impl Lists {
         }
     }
 
+    /// How many lists there are.
+    pub fn count(&self) -> usize {
+        self.starts.len().saturating_sub(1)
+    }
+
     /// How many entries there are.
     pub fn size(&self) -> usize {
         self.entries.len()

@@ -1,6 +1,6 @@
 //! A set of indices, as bits.
 
-use crate::arrays::filled;
+use crate::arrays::{at, filled};
 use std::alloc::{AllocError, Global};
 
 /// A set of indices below a bound, 64 to a word.
@@ -31,6 +31,25 @@ impl Marks {
         let word = index >> 6;
         if word < self.words.len() {
             self.words[word] &= !(1 << (index & 63));
+        }
+    }
+
+    /// Whether an index is in the set.
+    #[inline]
+    pub(crate) fn contains(&self, index: usize) -> bool {
+        (at(&self.words, index >> 6, 0) >> (index & 63)) & 1 == 1
+    }
+
+    /// The bits of a word; none past the end.
+    #[inline]
+    pub(crate) fn word(&self, word: usize) -> u64 {
+        at(&self.words, word, 0)
+    }
+
+    /// Takes all indices out.
+    pub(crate) fn clear(&mut self) {
+        for word in self.words.iter_mut() {
+            *word = 0;
         }
     }
 

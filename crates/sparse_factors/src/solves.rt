@@ -11,10 +11,18 @@ impl Factors {
     pub fn ftran(&self, x: &mut SparseVector) -> Result<(), AllocError> {
         self.apply_lower(x);
         self.apply_updates(x);
-        self.solve_upper(x)
+        self.solve_upper(x);
+        x.gather()
     }
 
-    /// The same; `spike` becomes the new column of U, for an update.
+    /// The same, but nothing is gathered: the numbers can be asked for, and aren't listed.
+    pub fn ftran_unlisted(&self, x: &mut SparseVector) {
+        self.apply_lower(x);
+        self.apply_updates(x);
+        self.solve_upper(x);
+    }
+
+    /// As `ftran`; `spike` becomes the new column of U, for an update.
     pub fn ftran_keeping(
         &self,
         x: &mut SparseVector,
@@ -24,7 +32,8 @@ impl Factors {
         self.apply_updates(x);
         x.gather()?;
         spike.copy_listed(x)?;
-        self.solve_upper(x)
+        self.solve_upper(x);
+        x.gather()
     }
 
     /// y B = c: `x` comes in as c by slots of the basic variables, and goes out as y by slots of the rows, gathered.
@@ -80,7 +89,7 @@ impl Factors {
     }
 
     /// Solves with U, backwards.
-    fn solve_upper(&self, x: &mut SparseVector) -> Result<(), AllocError> {
+    fn solve_upper(&self, x: &mut SparseVector) {
         let mut end = x.len();
         for _ in 0..x.len() {
             let Some(slot) = x.last_below(end) else {
@@ -102,7 +111,6 @@ impl Factors {
         for replaced in self.replaced.iter() {
             x.wipe(*replaced);
         }
-        x.gather()
     }
 
     /// Solves with U transposed, forwards, and keeps the solution in `row`.

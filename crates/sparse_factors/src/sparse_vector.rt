@@ -102,7 +102,22 @@ impl SparseVector {
         Ok(())
     }
 
-    /// The indices that `gather` listed.
+    /// Lists the indices outside of a set as `gather` does, and makes the numbers at those inside 0.
+    pub(crate) fn gather_outside(&mut self, inside: &Marks) -> Result<(), AllocError> {
+        self.listed.clear();
+        let values = self.values.as_mut_slice();
+        let words = self.marks.words_mut();
+        for (word, bits) in words.iter_mut().enumerate() {
+            if *bits != 0 {
+                let inner = *bits & inside.word(word);
+                clear_word(values, word, inner);
+                *bits = gather_word(values, word, *bits ^ inner, &mut self.listed)?;
+            }
+        }
+        Ok(())
+    }
+
+    /// The indices that were listed.
     pub fn listed(&self) -> &[usize] {
         &self.listed
     }
