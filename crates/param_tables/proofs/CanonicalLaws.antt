@@ -7,7 +7,7 @@ use Rattle.param_tables.proofs.GivenLaws.{names_same}
 
 -- ---- the used parameters
 
-used_is_listed : (d : Data) (p : ℕ) → IsUsedParam d p → Contains (used_params d) p
+pub used_is_listed : (d : Data) (p : ℕ) → IsUsedParam d p → Contains (used_params d) p
 used_is_listed d p used =
     let low : 1 ≤ p = used.0.0 in
     let high : p ≤ param_count = used.0.1 in
@@ -15,7 +15,7 @@ used_is_listed d p used =
     let at : get_or (range_with_len 1 param_count) (p - 1) p ≡ p = get_or-range_with_len 1 param_count (p - 1) p (omega arith) ∙ omega arith in
     contains_filter (λ n. is_used d.second (param_at n).used) (range_with_len 1 param_count) p (p - 1, inside, at) used.1
 
-listed_is_used : (d : Data) (p : ℕ) → Contains (used_params d) p → IsUsedParam d p
+pub listed_is_used : (d : Data) (p : ℕ) → Contains (used_params d) p → IsUsedParam d p
 listed_is_used d p has =
     let found = contains_from_filter (λ n. is_used d.second (param_at n).used) (range_with_len 1 param_count) p has in
     let i = found.0.0 in
@@ -25,11 +25,11 @@ listed_is_used d p has =
 
 -- ---- data that give the same
 
-filter_map-same : {X Y : Type 0} (f g : X → Option Y) (xs : List X) → ((x : X) → Contains xs x → f x ≡ g x) → filter_map f xs ≡ filter_map g xs
+pub filter_map-same : {X Y : Type 0} (f g : X → Option Y) (xs : List X) → ((x : X) → Contains xs x → f x ≡ g x) → filter_map f xs ≡ filter_map g xs
 filter_map-same f g [] same = refl
 filter_map-same f g (x ∷ xs) same = ap₂ (λ o ys. cons_option o ys) (same x (zero, omega arith, refl)) (filter_map-same f g xs (λ y has. same y (contains_later x xs y has)))
 
-flat_map-same : {X Y : Type 0} (f g : X → List Y) (xs : List X) → ((x : X) → Contains xs x → f x ≡ g x) → flat_map f xs ≡ flat_map g xs
+pub flat_map-same : {X Y : Type 0} (f g : X → List Y) (xs : List X) → ((x : X) → Contains xs x → f x ≡ g x) → flat_map f xs ≡ flat_map g xs
 flat_map-same f g [] same = refl
 flat_map-same f g (x ∷ xs) same = ap₂ (λ ys zs. ys ++ zs) (same x (zero, omega arith, refl)) (flat_map-same f g xs (λ y has. same y (contains_later x xs y has)))
 
@@ -90,63 +90,74 @@ found_step value make made test true passes (Some v) wanted is rest later so_far
 found_step value make made test false passes None wanted is rest later so_far = so_far
 found_step value make made test false passes (Some v) wanted is rest later so_far = ap (λ b. option_map value (cond b (Some (make v)) (find test rest))) (passes v) ∙ so_far
 
-module _ (d : Data) (p : ℕ) (index : List (List ℕ)) where
-  at_indices : (is : List (List (List ℕ))) → option_map (λ (g : Given). g.value) (find (is_given_at p index) (filter_map (λ i. option_map (given_value p i) (given_at d p i)) is)) ≡ cond (list_any (λ i. pointwise bytes_eq i index) is) (given_at d p index) None
+-- the values that a look-up gives for the parameter, in the order of its indices
+abbrev pub values_by : SetLists → (ℕ → List (List ℕ) → Option ℤ) → ℕ → List Given
+values_by sets look q = filter_map (λ index. option_map (given_value q index) (look q index)) (indices_of sets q)
+
+module _ (sets : SetLists) (look : ℕ → List (List ℕ) → Option ℤ) (p : ℕ) (index : List (List ℕ)) where
+  at_indices : (is : List (List (List ℕ))) → option_map (λ (g : Given). g.value) (find (is_given_at p index) (filter_map (λ i. option_map (given_value p i) (look p i)) is)) ≡ cond (list_any (λ i. pointwise bytes_eq i index) is) (look p index) None
   at_indices [] = refl
   at_indices (i ∷ is) =
       found_step (λ (g : Given). g.value) (given_value p i) (λ v. refl) (is_given_at p index) (pointwise bytes_eq i index)
       (λ v. ap (λ b. b && pointwise bytes_eq i index) (eq-eqb p p refl))
-      (given_at d p i) (given_at d p index) (λ t. ap (given_at d p) ((names_same i index).0 t))
-      (filter_map (λ j. option_map (given_value p j) (given_at d p j)) is) (list_any (λ j. pointwise bytes_eq j index) is) (at_indices is)
+      (look p i) (look p index) (λ t. ap (look p) ((names_same i index).0 t))
+      (filter_map (λ j. option_map (given_value p j) (look p j)) is) (list_any (λ j. pointwise bytes_eq j index) is) (at_indices is)
 
-  of_another : (q : ℕ) → nat_eq q p ≡ false → (is : List (List (List ℕ))) → option_map (λ (g : Given). g.value) (find (is_given_at p index) (filter_map (λ i. option_map (given_value q i) (given_at d q i)) is)) ≡ None
+  of_another : (q : ℕ) → nat_eq q p ≡ false → (is : List (List (List ℕ))) → option_map (λ (g : Given). g.value) (find (is_given_at p index) (filter_map (λ i. option_map (given_value q i) (look q i)) is)) ≡ None
   of_another q other [] = refl
   of_another q other (i ∷ is) =
       found_step (λ (g : Given). g.value) (given_value q i) (λ v. refl) (is_given_at p index) false
       (λ v. ap (λ b. b && pointwise bytes_eq i index) other)
-      (given_at d q i) None (λ t. cc)
-      (filter_map (λ j. option_map (given_value q j) (given_at d q j)) is) false (of_another q other is)
+      (look q i) None (λ t. cc)
+      (filter_map (λ j. option_map (given_value q j) (look q j)) is) false (of_another q other is)
 
-  module _ (has : Contains (indices_of d.sets p) index) where
-    of_params : (ps : List ℕ) → option_map (λ (g : Given). g.value) (find (is_given_at p index) (flat_map (values_for d) ps)) ≡ cond (list_any (λ q. nat_eq q p) ps) (given_at d p index) None
+  module _ (has : Contains (indices_of sets p) index) where
+    of_params : (ps : List ℕ) → option_map (λ (g : Given). g.value) (find (is_given_at p index) (flat_map (values_by sets look) ps)) ≡ cond (list_any (λ q. nat_eq q p) ps) (look p index) None
     of_params [] = refl
     of_params (q ∷ qs) =
-        ap (option_map (λ (g : Given). g.value)) (find-append (is_given_at p index) (values_for d q) (flat_map (values_for d) qs))
-        ∙ option_or-map (λ (g : Given). g.value) (find (is_given_at p index) (values_for d q)) (find (is_given_at p index) (flat_map (values_for d) qs))
-        ∙ ap (option_or (option_map (λ (g : Given). g.value) (find (is_given_at p index) (values_for d q)))) (of_params qs)
+        ap (option_map (λ (g : Given). g.value)) (find-append (is_given_at p index) (values_by sets look q) (flat_map (values_by sets look) qs))
+        ∙ option_or-map (λ (g : Given). g.value) (find (is_given_at p index) (values_by sets look q)) (find (is_given_at p index) (flat_map (values_by sets look) qs))
+        ∙ ap (option_or (option_map (λ (g : Given). g.value) (find (is_given_at p index) (values_by sets look q)))) (of_params qs)
         ∙ elim (cases_eq q p) [
           | inl same ↦
-              ap (λ o. option_or o (cond (list_any (λ r. nat_eq r p) qs) (given_at d p index) None)) (subst (λ n. option_map (λ (g : Given). g.value) (find (is_given_at p index) (values_for d n)) ≡ given_at d p index) (sym same) own)
-              ∙ either (given_at d p index) (list_any (λ r. nat_eq r p) qs)
-              ∙ sym (ap (λ b. cond (b || list_any (λ r. nat_eq r p) qs) (given_at d p index) None) (eq-eqb q p same))
+              ap (λ o. option_or o (cond (list_any (λ r. nat_eq r p) qs) (look p index) None)) (subst (λ n. option_map (λ (g : Given). g.value) (find (is_given_at p index) (values_by sets look n)) ≡ look p index) (sym same) own)
+              ∙ either (look p index) (list_any (λ r. nat_eq r p) qs)
+              ∙ sym (ap (λ b. cond (b || list_any (λ r. nat_eq r p) qs) (look p index) None) (eq-eqb q p same))
           | inr other ↦
-              ap (λ o. option_or o (cond (list_any (λ r. nat_eq r p) qs) (given_at d p index) None)) (of_another q (ne_eqb q p other) (indices_of d.sets q))
-              ∙ sym (ap (λ b. cond (b || list_any (λ r. nat_eq r p) qs) (given_at d p index) None) (ne_eqb q p other))
+              ap (λ o. option_or o (cond (list_any (λ r. nat_eq r p) qs) (look p index) None)) (of_another q (ne_eqb q p other) (indices_of sets q))
+              ∙ sym (ap (λ b. cond (b || list_any (λ r. nat_eq r p) qs) (look p index) None) (ne_eqb q p other))
         ]
       where
-        own : option_map (λ (g : Given). g.value) (find (is_given_at p index) (values_for d p)) ≡ given_at d p index
-        own = at_indices (indices_of d.sets p) ∙ ap (λ b. cond b (given_at d p index) None) (any_true (λ i. pointwise bytes_eq i index) (indices_of d.sets p) index has ((names_same index index).1 refl))
+        own : option_map (λ (g : Given). g.value) (find (is_given_at p index) (values_by sets look p)) ≡ look p index
+        own = at_indices (indices_of sets p) ∙ ap (λ b. cond b (look p index) None) (any_true (λ i. pointwise bytes_eq i index) (indices_of sets p) index has ((names_same index index).1 refl))
 
         either : (o : Option ℤ) (b : Bool) → option_or o (cond b o None) ≡ o
         either None true = refl
         either None false = refl
         either (Some v) b = refl
 
-    pub given_canonical : IsUsedParam d p → given_at (canonical d) p index ≡ given_at d p index
-    unfolding given_in_order
-    given_canonical used = of_params (used_params d) ∙ ap (λ b. cond b (given_at d p index) None) (any_true (λ q. nat_eq q p) (used_params d) p (used_is_listed d p used) (eq-eqb p p refl))
+    -- among the values of several parameters
+    pub found_by_look : (ps : List ℕ) → Contains ps p → option_map (λ (g : Given). g.value) (find (is_given_at p index) (flat_map (values_by sets look) ps)) ≡ look p index
+    found_by_look ps among = of_params ps ∙ ap (λ b. cond b (look p index) None) (any_true (λ q. nat_eq q p) ps p among (eq-eqb p p refl))
 
-module _ (d : Data) (p : ℕ) where
-  default_among : (ps : List ℕ) → option_map (λ (x : Default). x.value) (find (λ (x : Default). nat_eq x.param p) (filter_map (λ q. option_map (λ value. record { param = q; value = value }) (default_of d q)) ps)) ≡ cond (list_any (λ q. nat_eq q p) ps) (default_of d p) None
+pub given_canonical : (d : Data) (p : ℕ) (index : List (List ℕ)) → Contains (indices_of d.sets p) index → IsUsedParam d p → given_at (canonical d) p index ≡ given_at d p index
+unfolding given_in_order
+given_canonical d p index has used = found_by_look d.sets (given_at d) p index has (used_params d) (used_is_listed d p used)
+
+module _ (look : ℕ → Option ℤ) (p : ℕ) where
+  default_among : (ps : List ℕ) → option_map (λ (x : Default). x.value) (find (λ (x : Default). nat_eq x.param p) (filter_map (λ q. option_map (λ value. record { param = q; value = value }) (look q)) ps)) ≡ cond (list_any (λ q. nat_eq q p) ps) (look p) None
   default_among [] = refl
   default_among (q ∷ qs) =
       found_step (λ (x : Default). x.value) (λ value. record { param = q; value = value }) (λ v. refl) (λ (x : Default). nat_eq x.param p) (nat_eq q p) (λ v. refl)
-      (default_of d q) (default_of d p) (λ t. ap (default_of d) (eqb-true q p t))
-      (filter_map (λ r. option_map (λ value. record { param = r; value = value }) (default_of d r)) qs) (list_any (λ r. nat_eq r p) qs) (default_among qs)
+      (look q) (look p) (λ t. ap look (eqb-true q p t))
+      (filter_map (λ r. option_map (λ value. record { param = r; value = value }) (look r)) qs) (list_any (λ r. nat_eq r p) qs) (default_among qs)
 
-  pub default_canonical : IsUsedParam d p → default_of (canonical d) p ≡ default_of d p
-  unfolding defaults_in_order
-  default_canonical used = default_among (used_params d) ∙ ap (λ b. cond b (default_of d p) None) (any_true (λ q. nat_eq q p) (used_params d) p (used_is_listed d p used) (eq-eqb p p refl))
+  pub default_by_look : (ps : List ℕ) → Contains ps p → option_map (λ (x : Default). x.value) (find (λ (x : Default). nat_eq x.param p) (filter_map (λ q. option_map (λ value. record { param = q; value = value }) (look q)) ps)) ≡ look p
+  default_by_look ps among = default_among ps ∙ ap (λ b. cond b (look p) None) (any_true (λ q. nat_eq q p) ps p among (eq-eqb p p refl))
+
+pub default_canonical : (d : Data) (p : ℕ) → IsUsedParam d p → default_of (canonical d) p ≡ default_of d p
+unfolding defaults_in_order
+default_canonical d p used = default_by_look (default_of d) p (used_params d) (used_is_listed d p used)
 
 -- ---- what the data say
 

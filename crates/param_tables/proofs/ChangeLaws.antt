@@ -1,5 +1,6 @@
 -- Tables with another value at one place mean the data with that value at one index.
 use Rattle.std.proofs.Common.{◌≡◌, ◌≢◌, ℕ, ◌+◌, ◌-◌, ◌<◌, ◌≤◌, ◌∷◌, ◌&&◌, Bool, true, false, cond, List, [], ℤ, pos, Option, Some, None, length, drop, nat_eq, get_or, refl, sym, ap, ap₂, ◌∙◌, subst, inl, inr, arith, All}
+use Rattle.std.specs.Prelude.{min}
 use Rattle.param_tables.proofs.Common.{pointwise, find, zip, IsStrictlyIncreasing, option_map, option_or, ◌⊎◌, Contains, IsSomeAnd, if◌then◌else◌, bytes_eq, cases_eq, cases_lt, eq-eqb, eqb-true, ne_eqb, drop_all, drop_more, get_or_default, slice_get-get_or, get_or-zip, length-zip, Data, Given, IsUsedParam, default_of, given_at, indices_of, is_given_at, value_at, value_of_none, SetLists, range_of, subscript_sets, subscripts_are_sets, AreComplete, IsValueIn, given_value, with_given, with_value_at, AreDataWith, AreTablesWith, IsCopyOf, IsTableWith, GiveTheSame, AreTablesFor, HaveShapes, IsTable, IsUsable, entries_of, given_in, AreKept, data_by, facts_of, ParamTable}
 use Rattle.param_tables.proofs.CanonicalLaws.{canonical_one, default_canonical, given_canonical, value_canonical}
 use Rattle.param_tables.proofs.EntryLaws.{given_at_place, given_none}
@@ -11,24 +12,24 @@ use Rattle.param_tables.proofs.ViewLaws.{usable}
 
 -- ---- the values given, from a place of their list on
 
-pub given_from : (places : List ℕ) (values : List ℤ) (i q : ℕ) → length values ≡ length places → i < length places
+pub given_from : (places : List ℕ) (values : List ℤ) (i q : ℕ) → i < length places → i < length values
     → given_in (drop i (zip places values)) q ≡ (if nat_eq q (get_or places i 0) then Some (get_or values i (pos 0)) else given_in (drop (i + 1) (zip places values)) q)
-given_from places values i q long below =
-    let first : drop i (zip places values) ≡ get_or (zip places values) i (0, pos 0) ∷ drop (i + 1) (zip places values) = drop_more (zip places values) i (0, pos 0) (rw (length-zip places values) (omega (arith, long, below))) in
-    let at : get_or (zip places values) i (0, pos 0) ≡ (get_or places i 0, get_or values i (pos 0)) = get_or-zip places values i (0, pos 0) below (omega (arith, long, below)) in
+given_from places values i q below inside =
+    let first : drop i (zip places values) ≡ get_or (zip places values) i (0, pos 0) ∷ drop (i + 1) (zip places values) = drop_more (zip places values) i (0, pos 0) (rw (length-zip places values) (omega (arith, below, inside))) in
+    let at : get_or (zip places values) i (0, pos 0) ≡ (get_or places i 0, get_or values i (pos 0)) = get_or-zip places values i (0, pos 0) below inside in
     ap (λ es. given_in es q) (first ∙ ap (λ e. e ∷ drop (i + 1) (zip places values)) at)
 
 -- past the last of them nothing is given
-pub given_past : (places : List ℕ) (values : List ℤ) (q : ℕ) → length values ≡ length places → given_in (drop (length places) (zip places values)) q ≡ None
-given_past places values q long = ap (λ es. given_in es q) (drop_all (length places) (zip places values) (rw (length-zip places values) (omega (arith, long))))
+pub given_past : (places : List ℕ) (values : List ℤ) (i q : ℕ) → i ≡ min (length places) (length values) → given_in (drop i (zip places values)) q ≡ None
+given_past places values i q all = ap (λ es. given_in es q) (drop_all i (zip places values) (rw (length-zip places values) (omega (arith, all))))
 
 -- ---- one table
 
 -- nothing is given past the places of the indices
-none_past : (size : ℕ) (table : ParamTable) → IsTable size table → (q : ℕ) → size ≤ q → given_in (entries_of table) q ≡ None
+pub none_past : (size : ℕ) (table : ParamTable) → IsTable size table → (q : ℕ) → size ≤ q → given_in (entries_of table) q ≡ None
 none_past size table is q past = given_none table.places.items table.values.items q (λ k below same. let short = is.below k 0 below in omega (arith, short, same))
 
-some_none : (v : ℤ) → Some v ≡ None → ⊥
+pub some_none : (v : ℤ) → Some v ≡ None → ⊥
 some_none v e = cc
 
 -- with another value it has the shape of the parameter still

@@ -57,7 +57,7 @@ numbers_apart a n = IsDistinct-from_apart nat_eq (range_with_len a n) (λ i j d 
 -- ---- the look-up by names is that by places
 
 module _ (sets : SetLists) (apart : HaveApart sets) (p : ℕ) (listed : IsParam p) where
-  place_test : (q j : ℕ) → q < length (indices_of sets p) → j < length (indices_of sets p) → pointwise bytes_eq (get_or (indices_of sets p) q []) (get_or (indices_of sets p) j []) ≡ nat_eq j q
+  pub place_test : (q j : ℕ) → q < length (indices_of sets p) → j < length (indices_of sets p) → pointwise bytes_eq (get_or (indices_of sets p) q []) (get_or (indices_of sets p) j []) ≡ nat_eq j q
   place_test q j bq bj = elim (cases_eq j q) [
     | inl same ↦ (names_same (get_or (indices_of sets p) q []) (get_or (indices_of sets p) j [])).1 (ap (λ n. get_or (indices_of sets p) n []) (sym same)) ∙ sym (eq-eqb j q same)
     | inr other ↦ false_from (pointwise bytes_eq (get_or (indices_of sets p) q []) (get_or (indices_of sets p) j [])) (λ t. other (sym (indices_apart sets apart (subscript_sets p) q j (subscripts_are_sets p listed) bq bj ((names_same (get_or (indices_of sets p) q []) (get_or (indices_of sets p) j [])).0 t)))) ∙ sym (ne_eqb j q other)

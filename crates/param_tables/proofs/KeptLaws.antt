@@ -104,12 +104,12 @@ none_head : {Y : Type 0} (o : Option Y) (ys : List Y) → cons_option o ys ≡ [
 none_head None ys e = (refl, e)
 none_head (Some y) ys e = absurd cc
 
-none_kept : {X Y : Type 0} (f : X → Option Y) (xs : List X) (i : ℕ) (d : X) → filter_map f xs ≡ [] → i < length xs → f (get_or xs i d) ≡ None
+pub none_kept : {X Y : Type 0} (f : X → Option Y) (xs : List X) (i : ℕ) (d : X) → filter_map f xs ≡ [] → i < length xs → f (get_or xs i d) ≡ None
 none_kept f [] i d e below = absurd (omega arith)
 none_kept f (x ∷ xs) zero d e below = (none_head (f x) (filter_map f xs) e).0
 none_kept f (x ∷ xs) (suc i) d e below = none_kept f xs i d (none_head (f x) (filter_map f xs) e).1 (omega arith)
 
-unmapped : {X Y : Type 0} (f : X → Y) (o : Option X) → option_map f o ≡ None → o ≡ None
+pub unmapped : {X Y : Type 0} (f : X → Y) (o : Option X) → option_map f o ≡ None → o ≡ None
 unmapped f None e = refl
 unmapped f (Some x) e = absurd cc
 

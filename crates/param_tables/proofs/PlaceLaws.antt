@@ -1,5 +1,6 @@
 -- The place of an index, subscript by subscript.
 use Rattle.param_tables.proofs.Common.{◌≡◌, ℕ, zero, suc, ◌+◌, ◌-◌, ◌*◌, ◌/◌, ◌%◌, ◌^◌, ◌<◌, ◌≤◌, Bool, true, false, cond, ◌&&◌, List, [], ◌∷◌, ◌++◌, None, Some, length, take, drop, get_or, refl, sym, ap, ◌∙◌, subst, inl, inr, arith, nat_le, nat_lt, slice_index_or, is_some, list_any, position_or_len, bytes_eq, cases_lt, leb-true, lt-ltb, le-ltb, drop_more, length-take, take_more, AllZip-long, all_zipped_more, bytes_eq-Decides, indices_over, SetLists, members, is_among, index_of, AreSets, IsSet, limits, limit_of, IsPlaceOf, are_members, ArePositions, names_over}
+use Rattle.std.specs.Prelude.{position}
 use Rattle.std.proofs.lemmas.List.Quantifiers.{position-Some}
 use Rattle.std.proofs.lemmas.List.Sums.{AllPass-from_list_all}
 use Rattle.param_tables.proofs.IndexLaws.{IsPart, parts, length-push, get_or-push, below-push}
@@ -85,12 +86,16 @@ any_at_position : {X : Type 0} (p : X → Bool) (xs : List X) → nat_lt (positi
 any_at_position p [] = refl
 any_at_position p (x ∷ xs) = any_step p x xs (p x) refl (any_at_position p xs)
 
-pub is_some-index_of : (names : List (List ℕ)) (name : List ℕ) → is_some (index_of names name) ≡ is_among names name
-is_some-index_of names name = of_cond (nat_lt (position_or_len (bytes_eq name) names) (length names)) (position_or_len (bytes_eq name) names) ∙ any_at_position (bytes_eq name) names
+-- a position is found where one passes
+pub is_some-position : {X : Type 0} (p : X → Bool) (xs : List X) → is_some (position p xs) ≡ list_any p xs
+is_some-position p xs = of_cond (nat_lt (position_or_len p xs) (length xs)) (position_or_len p xs) ∙ any_at_position p xs
   where
     of_cond : (b : Bool) (i : ℕ) → is_some (cond b (Some i) None) ≡ b
     of_cond true i = refl
     of_cond false i = refl
+
+pub is_some-index_of : (names : List (List ℕ)) (name : List ℕ) → is_some (index_of names name) ≡ is_among names name
+is_some-index_of names name = is_some-position (bytes_eq name) names
 
 -- ---- places
 

@@ -1,5 +1,5 @@
 -- Parts of lists of places that ascend, and the blocks in which their places lie.
-use Rattle.param_tables.proofs.Common.{◌≡◌, ℕ, ◌+◌, ◌-◌, ◌*◌, ◌/◌, ◌%◌, ◌<◌, ◌≤◌, Bool, true, false, cond, List, [], nat_eq, length, map, get_or, refl, sym, ap, ◌∙◌, subst, inl, inr, arith, Contains, between, dedup, IsSorted, IsStrictlyIncreasing, is_lt, nat_cmp, Less, Equal, Greater, cases_lt, le-ltb, get_or-map, get_or_default, length-map, Contains-dedup_nat, Contains-from_dedup, IsStrictlyIncreasing-dedup, AreBlocks, IsPartBetween}
+use Rattle.param_tables.proofs.Common.{◌≡◌, ℕ, ◌+◌, ◌-◌, ◌*◌, ◌/◌, ◌%◌, ◌<◌, ◌≤◌, Bool, true, false, cond, List, nat_eq, length, map, get_or, refl, sym, ap, ◌∙◌, subst, inl, inr, arith, Contains, between, dedup, IsSorted, IsStrictlyIncreasing, is_lt, nat_cmp, Less, Equal, Greater, cases_lt, le-ltb, get_or-map, get_or_default, length-map, Contains-dedup_nat, Contains-from_dedup, IsStrictlyIncreasing-dedup, AreBlocks, IsPartBetween}
 use Rattle.std.proofs.lemmas.List.Edits.{get_or-between, length-between}
 use Rattle.std.proofs.lemmas.Nat.{le-div}
 use Rattle.std.proofs.Math.Nat.{div-mul-le_self}

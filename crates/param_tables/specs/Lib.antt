@@ -1,9 +1,12 @@
 pub mod BlockData
 pub mod Built
 pub mod Canonical
+pub mod ChangeTold
 pub mod Changed
 pub mod ChangedTables
+pub mod Changes
 pub mod InTurn
+pub mod OpenTables
 pub mod Places
 pub mod Positions
 pub mod Ranges

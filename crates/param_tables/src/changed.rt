@@ -8,7 +8,6 @@ ghost use Rattle.param_tables.specs.Canonical.{with_value_at};
 ghost use Rattle.param_tables.specs.ChangedTables.{AreCopiesOf, AreTablesWith};
 ghost use Rattle.param_tables.specs.RatioPlaces.{AreKeptWith};
 ghost use Rattle.param_tables.specs.View.{AreKept, facts_of};
-ghost use Rattle.param_tables.specs.declared.param_table.ParamTable.{ParamTable as TableFacts};
 
 use crate::copied_sets::copied_sets;
 use crate::param_table::ParamTable;
@@ -26,7 +25,7 @@ pub(crate) struct ChangedParts {
 
 /// A value of a parameter, in billionths, and the place of its index.
 #[derive(Clone, Copy)]
-pub(crate) struct Change {
+pub(crate) struct PlacedValue {
     pub(crate) param: u8,
     pub(crate) place: u64,
     pub(crate) value: i128,
@@ -47,11 +46,10 @@ fn copied_tables(alloc: Global, tables: &[ParamTable]) -> Result<Vec<ParamTable>
 fn tables_with(
     alloc: Global,
     tables: &[ParamTable],
-    change: Change,
+    change: PlacedValue,
 ) -> Result<Vec<ParamTable>, AllocError>
     requires least { 1 ≤ change.param }
     requires most { change.param ≤ length tables.now }
-    requires long { (e : TableFacts) → length (slice_index_or tables.now (change.param - 1) e).values.items ≡ length (slice_index_or tables.now (change.param - 1) e).places.items }
     ensures { IfOk result (λ changed. AreTablesWith change.param change.place change.value tables.now changed.items) }
 {
     let at = usize::from(change.param - 1);
@@ -67,7 +65,7 @@ pub(crate) fn changed_parts(
     sets: &Sets,
     tables: &[ParamTable],
     second: bool,
-    change: Change,
+    change: PlacedValue,
 ) -> Result<ChangedParts, AllocError>
     requires kept { AreKept sets.now tables.now second }
     requires used { IsUsedParam (facts_of sets.now tables.now second) change.param }

@@ -4,6 +4,7 @@ ghost use Rattle.std.specs.Prelude.{◌≡◌};
 ghost use Rattle.model_sets.specs.Members.{SetLists};
 ghost use Rattle.param_tables.specs.Told.{refusal_told, at, IsCell, NamesCell};
 ghost use Rattle.param_tables.specs.declared.fault.BuildFail.TheVariants.{Memory};
+ghost use Rattle.param_tables.specs.declared.fault.ChangeFail.TheVariants as ChangeFail;
 ghost use Rattle.param_tables.specs.declared.fault.Stop.TheVariants as Stop;
 
 use mathprog_data::Mark;
@@ -56,6 +57,23 @@ impl From<AllocError> for BuildFail {
 
     fn from(_: AllocError) -> BuildFail {
         BuildFail::Memory
+    }
+}
+
+/// Why the data weren't changed.
+#[derive(Drop)]
+pub enum ChangeFail {
+    /// A value that the change gives is refused: the first, in the order of the indices.
+    Fault(BuildFault),
+    /// There is no memory for the change.
+    Memory,
+}
+
+impl From<AllocError> for ChangeFail {
+    ghost from_gives = { λ _ fail. fail ≡ ChangeFail.Memory };
+
+    fn from(_: AllocError) -> ChangeFail {
+        ChangeFail::Memory
     }
 }
 

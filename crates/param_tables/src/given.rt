@@ -1,6 +1,6 @@
 //! The values of one statement, by the places of their indices.
 
-ghost use Rattle.std.specs.Prelude.{◌≡◌, ℕ, [], Some, nat_eq, IfErr, IfOk, OnOk, All, if◌then◌else◌};
+ghost use Rattle.std.specs.Prelude.{◌≡◌, ℕ, [], Some, nat_eq, IfErr, IfOk, OnOk, All, if◌then◌else◌, OnErr};
 ghost use Rattle.std.specs.BTreeMap.{get};
 ghost use Rattle.std.specs.Ordering.{nat_cmp};
 ghost use Rattle.model_sets.specs.Members.{AreSets};
@@ -24,7 +24,8 @@ pub(crate) fn keep(
     place: u64,
     value: &i128,
 ) -> Result<(), AllocError>
-    ensures { OnOk result ((q : ℕ) → get nat_cmp values.new q ≡ (if nat_eq q place then Some value.now else get nat_cmp values.old q)) }
+    ensures kept { OnOk result ((q : ℕ) → get nat_cmp values.new q ≡ (if nat_eq q place then Some value.now else get nat_cmp values.old q)) }
+    ensures unchanged { OnErr result (values.new.entries ≡ values.old.entries) }
 {
     values.insert(place, *value)?;
     Ok(())

@@ -13,7 +13,7 @@ use model_sets::Sets;
 use std::alloc::{AllocError, Global};
 
 /// The place of an index with one more subscript, which runs over `count` members.
-fn next_place(place: u64, count: u16, member: u16) -> u64
+pub(crate) fn next_place(place: u64, count: u16, member: u16) -> u64
     requires place { place < 10 ^ 15 }
     requires count { count ≤ 1000 }
     requires member { member < count }

@@ -3,7 +3,10 @@
 #![tactic(auto)]
 
 mod building;
+mod change;
 mod changed;
+mod changed_table;
+mod changed_value;
 mod checks;
 mod copied_sets;
 mod fault;
@@ -13,6 +16,9 @@ mod indices;
 mod laws;
 mod listed;
 mod model_data;
+mod named_places;
+mod open_data;
+mod open_table;
 mod param_table;
 mod place_search;
 mod ranges;
@@ -24,8 +30,10 @@ mod tables;
 mod tried;
 
 pub use building::build;
-pub use fault::{BuildFail, BuildFault, Cell, CellFault};
+pub use change::{Change, ChangeKind, Members};
+pub use fault::{BuildFail, BuildFault, Cell, CellFault, ChangeFail};
 pub use laws::{canonical_laws, range_laws};
 pub use model_data::ModelData;
+pub use open_data::OpenData;
 pub use ratios::{ActivityRatio, RatioIndex};
 pub use set_members::sets_of;

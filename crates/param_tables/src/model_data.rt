@@ -11,10 +11,10 @@ ghost use Rattle.param_tables.specs.Positions.{IsIndexOf, names_at};
 ghost use Rattle.param_tables.specs.Ranges.{billion};
 ghost use Rattle.param_tables.specs.RatioPlaces.{AreKeptWith, IsWithin, ratio_sizes};
 ghost use Rattle.param_tables.specs.Ratios.{AreMembersFor, IsRegion, IsTechnology, is_nonzero_in, nonzero_indices, nonzero_modes, nonzero_technologies};
-ghost use Rattle.param_tables.specs.View.{facts_of};
+ghost use Rattle.param_tables.specs.View.{AreKept, facts_of};
 ghost use Rattle.mathprog_data.specs.WellFormed.{IsWithinLimit};
 
-use crate::changed::{Change, changed_parts};
+use crate::changed::{PlacedValue, changed_parts};
 use crate::indices::place_of;
 use crate::listed::{listed_indices, listed_modes, listed_technologies};
 use crate::param_table::{ParamTable, is_nonzero, value_else};
@@ -52,6 +52,15 @@ impl Model for ModelData {
     ghost view = { λ model. record { facts = facts_of model.sets model.tables.items model.second; rounded = model.rounded } };
 
     ghost invariant = { λ model. AreKeptWith model.sets model.tables.items model.second model.ratios };
+}
+
+/// The sets of the data, the tables of their parameters, and what is known of the text.
+#[derive(Drop)]
+pub(crate) struct DataParts {
+    pub(crate) sets: Sets,
+    pub(crate) tables: Vec<ParamTable>,
+    pub(crate) second: bool,
+    pub(crate) rounded: u64,
 }
 
 /// The value, which is given in billionths.
@@ -100,6 +109,27 @@ impl ModelData {
             tables,
             second,
             ratios,
+            rounded,
+        }
+    }
+
+    /// The parts of the data, without the places at which the ratios aren't 0.
+    pub(crate) fn into_parts(self) -> DataParts
+        ensures facts { facts_of result.sets result.tables.items result.second ≡ self.facts }
+        ensures rounded { result.rounded ≡ self.rounded }
+        ensures kept { AreKept result.sets result.tables.items result.second }
+    {
+        let ModelData {
+            sets,
+            tables,
+            second,
+            ratios: _,
+            rounded,
+        } = self;
+        DataParts {
+            sets,
+            tables,
+            second,
             rounded,
         }
     }
@@ -160,7 +190,7 @@ impl ModelData {
         ensures complete { IfOk result (λ model. AreComplete model.facts) }
     {
         let place = place_of(&self.sets, subscript_sets(param), index);
-        let change = Change {
+        let change = PlacedValue {
             param,
             place,
             value,

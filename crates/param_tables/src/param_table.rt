@@ -1,8 +1,10 @@
 //! The values of one parameter, by the places of their indices.
 
-ghost use Rattle.std.specs.Prelude.{◌≡◌, ℕ, [], None, is_some, length, IfOk};
+ghost use Rattle.std.specs.Prelude.{◌≡◌, ℕ, [], None, Some, is_some, length, nat_eq, IfOk, OnOk, if◌then◌else◌};
+ghost use Rattle.std.specs.Bool.{OnFalse, OnTrue};
 ghost use Rattle.std.specs.BTreeMap.{get};
 ghost use Rattle.std.specs.List.Sorted.{IsBinarySearchResult, IsStrictlyIncreasing};
+ghost use Rattle.std.specs.Option.{option_or};
 ghost use Rattle.std.specs.Ordering.{nat_cmp};
 ghost use Rattle.param_tables.specs.ChangedTables.{IsCopyOf, IsTableWith};
 ghost use Rattle.param_tables.specs.RatioPlaces.{is_nonzero_value};
@@ -87,17 +89,24 @@ impl ParamTable {
         })
     }
 
+    /// Keeps the values given at their places.
+    pub(crate) fn fill(&self, given: &mut BTreeMap<u64, i128>) -> Result<(), AllocError>
+        ensures { OnOk result ((q : ℕ) → get nat_cmp given.new q ≡ option_or (given_in (entries_of self.now) q) (get nat_cmp given.old q)) }
+    {
+        let mut i = self.places.len().min(self.values.len());
+        while i > 0 {
+            i -= 1;
+            keep(given, self.places[i], &self.values[i])?;
+        }
+        Ok(())
+    }
+
     /// The values given, by the places of their indices.
     fn given(&self, alloc: Global) -> Result<BTreeMap<u64, i128>, AllocError>
-        requires { length self.now.values.items ≡ length self.now.places.items }
         ensures { IfOk result (λ given. (q : ℕ) → get nat_cmp given q ≡ given_in (entries_of self.now) q) }
     {
         let mut given = BTreeMap::new(alloc);
-        let mut i = self.places.len();
-        while i > 0 {
-            i -= 1;
-            keep(&mut given, self.places[i], &self.values[i])?;
-        }
+        self.fill(&mut given)?;
         Ok(given)
     }
 
@@ -108,7 +117,6 @@ impl ParamTable {
         place: u64,
         value: i128,
     ) -> Result<ParamTable, AllocError>
-        requires { length self.now.values.items ≡ length self.now.places.items }
         ensures { IfOk result (IsTableWith place value self.now) }
     {
         let mut given = self.given(alloc)?;
@@ -129,8 +137,28 @@ impl ParamTable {
         self.places.binary_search(&place)
     }
 
+    /// Puts the value, in billionths, in place of the one given at the place, and answers whether one is given there.
+    pub(crate) fn replace(&mut self, place: u64, value: i128) -> bool
+        requires ascending { IsStrictlyIncreasing self.old.places.items }
+        requires long { length self.old.values.items ≡ length self.old.places.items }
+        ensures default { self.new.default ≡ self.old.default }
+        ensures places { self.new.places.items ≡ self.old.places.items }
+        ensures long { length self.new.values.items ≡ length self.old.values.items }
+        ensures given { result ≡ is_some (given_in (entries_of self.old) place) }
+        ensures here { OnTrue result ((q : ℕ) → given_in (entries_of self.new) q ≡ (if nat_eq q place then Some value else given_in (entries_of self.old) q)) }
+        ensures none { OnFalse result (self.new.values.items ≡ self.old.values.items) }
+    {
+        match self.search(place) {
+            Ok(i) => {
+                self.values[i] = value;
+                true
+            }
+            Err(_) => false,
+        }
+    }
+
     /// The value given at the place.
-    fn given_at(&self, place: u64) -> Option<i128>
+    pub(crate) fn given_at(&self, place: u64) -> Option<i128>
         requires ascending { IsStrictlyIncreasing self.now.places.items }
         requires long { length self.now.values.items ≡ length self.now.places.items }
         ensures { result ≡ given_in (entries_of self.now) place }

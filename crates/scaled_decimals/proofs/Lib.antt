@@ -6,6 +6,7 @@ pub mod DigitLemmas
 pub mod FractionLemmas
 pub mod HeadLemmas
 pub mod InverseLaws
+pub mod NumberReading
 pub mod PrintedLaws
 pub mod PrintedRounding
 pub mod PrintedTexts

@@ -2,6 +2,8 @@
 use Rattle.scaled_decimals.proofs.Common.{◌≡◌, ◌^◌, ℕ, pos, negsuc, List, [], ◌∷◌, true, false, Some, None, Ok, Err, refl, codes, all_fit, in_range, pair, lowest, TooLarge, numerator, denominator, decimal_of, is_above, nearest, number_of, FractionText, Whole, Quotient, Decimal, SpellsValue, top_of, bottom_of}
 use Rattle.exact_num.specs.Gcd.{gcd_of, gcd_within}
 use Rattle.scaled_decimals.specs.FractionText as value
+use Rattle.scaled_decimals.specs.NumberReading.{number_in}
+use Rattle.std.specs.Prelude.{false, map}
 use Rattle.scaled_decimals.specs.NumberText.{Sign, Bare, Plus, Minus, NumberText, IsFormed, spelling}
 
 -- a number without a power of ten
@@ -38,6 +40,14 @@ no_digit is = elim is.nonempty [ ]
 
 no_power : IsFormed (power Bare (codes "1") Bare []) → ⊥
 no_power is = elim is.power.0 [ ]
+
+-- ---- the number in a text
+negative_number : number_in (codes "-2.5e7") ≡ Some (record { sign = Minus; whole = codes "2"; fraction = Some (codes "5"); exponent = Some (record { capital = false; sign = Bare; digits = codes "7" }) })
+negative_number = refl
+
+-- a point alone, a power of ten without digits, and a blank are no numbers
+no_numbers : map number_in (codes "." ∷ codes "1e" ∷ codes " 1" ∷ []) ≡ None ∷ None ∷ None ∷ []
+no_numbers = refl
 
 -- ---- values: 0.1666666667 is rounded, .5 and 5. aren't
 sixth : decimal_of (plain Bare (codes "0") (codes "1666666667")) ≡ Ok (pos 166666667, true)

@@ -2,6 +2,7 @@ pub mod DecimalReading
 pub mod Digits
 pub mod FractionReading
 pub mod FractionText
+pub mod NumberReading
 pub mod NumberText
 pub mod PartsReading
 pub mod PrintedFraction

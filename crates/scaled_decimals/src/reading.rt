@@ -4,6 +4,7 @@ ghost use Rattle.scaled_decimals.specs.DecimalReading.{Reads, decimal_of};
 ghost use Rattle.scaled_decimals.specs.Digits.{AreDigits};
 ghost use Rattle.scaled_decimals.specs.FractionReading.{ReadsValue, AgreesWith};
 ghost use Rattle.scaled_decimals.specs.FractionText.{FractionText, Form, SpellsValue, IsFormed, above_of, below_of};
+ghost use Rattle.scaled_decimals.specs.NumberReading.{decimal_in};
 ghost use Rattle.scaled_decimals.specs.NumberText.{NumberText, Spells};
 ghost use Rattle.scaled_decimals.specs.PartsReading.{AreParts, form_of};
 
@@ -40,6 +41,7 @@ pub enum DecFault {
 /// proportion to the length of `text`.
 pub fn read_decimal(text: &[u8]) -> Result<(i128, bool), DecFault>
     ensures answer { Reads text.now result }
+    ensures read { result ≡ decimal_in text.now }
     ensures number { (p : NumberText) → Spells p text.now → result ≡ decimal_of p }
     ensures bound { IfOk result (λ read. unsigned_abs read.0 ≤ 10 ^ 24) }
 {

@@ -3,11 +3,13 @@ ghost use Rattle.std.specs.Prelude.{◌≡◌, ◌+◌, ◌*◌, ◌^◌, ◌<�
 ghost use Rattle.scaled_decimals.specs.Rounding.{nearest};
 ghost use Rattle.scaled_decimals.specs.Digits.{number_of};
 ghost use Rattle.scaled_decimals.specs.FractionText.{FractionText, SpellsValue};
+ghost use Rattle.scaled_decimals.specs.NumberReading.{NumbersAreFound};
 ghost use Rattle.scaled_decimals.specs.NumberText.{NumberText, Spells};
 
-/// A text is spelled by the parts of one number at most, and by those of one exact value at most.
+/// A text is spelled by the parts of one number at most, which are those that are found in it, and by those of one exact value at most.
 pub fn spelling_laws()
     ensures number { (text : List ℕ) (p q : NumberText) → Spells p text → Spells q text → p ≡ q }
+    ensures found { NumbersAreFound }
     ensures value { (text : List ℕ) (f g : FractionText) → SpellsValue f text → SpellsValue g text → f ≡ g }
 {}
 

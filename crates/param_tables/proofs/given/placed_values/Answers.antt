@@ -66,7 +66,7 @@ loop-number-preserved c =
     let before : is_given_among (take i told) v.index ≡ false = sym (is_some-given (take i told) v.index) ∙ ap (λ o. is_some o) (sym here) ∙ absent in
     let free : value_refusal sets p (take i told) (get_or told i v) ≡ None = ap (value_refusal sets p (take i told)) (sym is) ∙ value_free sets p (take i told) v known before in
     let back : to_z w128 (of_z w128 c.value.result) ≡ c.value.result = search rules in
-    let kept : (q : ℕ) → get nat_cmp c.keep.new.values q ≡ (if nat_eq q place then Some v.value else found q) = λ q. c.in_ok-keep.ensures q ∙ ap (λ value. if nat_eq q place then Some value else found q) (back ∙ c.value.ensures v is) in
+    let kept : (q : ℕ) → get nat_cmp c.keep.new.values q ≡ (if nat_eq q place then Some v.value else found q) = λ q. c.in_ok-keep.ensures.kept q ∙ ap (λ value. if nat_eq q place then Some value else found q) (back ∙ c.value.ensures v is) in
     record {
       values = given_more sets (names_apart_from sets c.requires.sets) p c.requires.listed told i v below is place at found c.loop-number.invariant.values (get nat_cmp c.keep.new.values) (none_from (found place) absent) kept;
       refusals = in_turn_free (value_refusal sets p) told i v (in_turn (value_refusal sets p) told) below free c.loop-number.invariant.refusals;

@@ -1,6 +1,7 @@
 -- A text has one value only, so that what is found is what every reading of it says.
-use Rattle.scaled_decimals.proofs.Common.{sym, ap, ◌∙◌, subst, decimal_of, AreDigits}
+use Rattle.scaled_decimals.proofs.Common.{Err, NotNumber, sym, ap, ◌∙◌, subst, decimal_of, AreDigits}
 use Rattle.scaled_decimals.proofs.DecimalLemmas.{IfOk-bound, Reads-from}
+use Rattle.scaled_decimals.proofs.NumberReading.{decimal_reads}
 use Rattle.scaled_decimals.proofs.TextLemmas.{one_way}
 use Rattle.scaled_decimals.proofs.reading.read_decimal.Goals as goal
 
@@ -29,3 +30,11 @@ pub returns-in-Some-clause-bound : goal.returns-in-Some-clause-bound
 returns-in-Some-clause-bound c =
     let found = c.in-Some.ensures in
     IfOk-bound found.0 c.decimal.result (c.decimal.ensures found.0 found.2)
+
+pub returns-in-None-clause-read : goal.returns-in-None-clause-read
+returns-in-None-clause-read c = decimal_reads c.args.text.now (Err NotNumber) c.in-None.ensures
+
+pub returns-in-Some-clause-read : goal.returns-in-Some-clause-read
+returns-in-Some-clause-read c =
+    let found = c.in-Some.ensures in
+    decimal_reads c.args.text.now c.decimal.result (Reads-from found.0 c.args.text.now c.decimal.result found.1 (c.decimal.ensures found.0 found.2))
