@@ -1,0 +1,5 @@
+pub mod Columns
+pub mod Faults
+pub mod Files
+pub mod Records
+pub mod Told
