@@ -1,8 +1,8 @@
 -- Accepted data are complete: their sets keep the rules, and each used parameter has a value in its range at each of its indices.
-use Rattle.std.proofs.Common.{◌≡◌, ℕ, zero, suc, ◌+◌, ◌-◌, ◌<◌, ◌≤◌, false, List, [], ◌∷◌, ◌++◌, length, get_or, take, Option, Some, None, refl, sym, ◌∙◌, subst, arith, take_all}
+use Rattle.std.proofs.Common.{◌≡◌, ℕ, zero, suc, ◌+◌, ◌-◌, ◌<◌, ◌≤◌, false, List, [], ◌∷◌, ◌++◌, length, get_or, take, Option, Some, None, Ok, ap, refl, sym, ◌∙◌, subst, arith, take_all}
 use Rattle.std.specs.Option.{option_map}
 use Rattle.std.specs.List.{AllByRecursion, IsDistinct, cons_option, flat_map, range_with_len}
-use Rattle.command_answers.proofs.Common.{take_more, Blocks, Says, Data, data_told, set_lists, first_refusal, fault_in, first_set_refusal, member_refusals, only, refusal_after, Accepted}
+use Rattle.command_answers.proofs.Common.{take_more, Blocks, Says, Data, data_told, set_lists, first_refusal, fault_in, first_set_refusal, member_refusals, only, refusal_after, Accepted, SaysData, Source, built_of, changed_by}
 use Rattle.std.proofs.lemmas.List.FromFn.{get_or-range_with_len}
 use Rattle.std.proofs.lemmas.Cmp.{nat_list_eq_equiv}
 use Rattle.std.proofs.lemmas.Map.Keys.{IsDistinct-push}
@@ -10,7 +10,9 @@ use Rattle.model_sets.specs.Members.{AreSets, KeepsRules, SetLists, first_refusa
 use Rattle.model_sets.specs.Names.{IsSet, limit_of, set_count}
 use Rattle.model_sets.proofs.SetLaws.{IsTaken, appended_keeps, taken}
 use Rattle.mathprog_data.proofs.ReadingLaws.{says_well}
-use Rattle.param_tables.specs.Built.{AreComplete}
+use Rattle.data_changes.proofs.AfterLaws.{all_sets}
+use Rattle.data_changes.proofs.CompleteChanges.{file_complete}
+use Rattle.param_tables.specs.Built.{AreComplete, Built}
 use Rattle.param_tables.specs.InTurn.{first_of}
 use Rattle.param_tables.proofs.KeptLaws.{complete_canonical, complete_of, values_are_numbers}
 use Rattle.param_tables.proofs.SetLaws.{members-set}
@@ -96,5 +98,20 @@ told-complete blocks text sets_free free says =
     complete_of (data_told blocks) sets (none-right _ _ (none-first _ free))
     (λ p used index has. values_are_numbers (set_lists blocks) blocks.params p index (says_well text blocks says).params.each)
 
-pub accepted-complete : (text : List ℕ) (d : Data) → Accepted text d → AreComplete d
-accepted-complete text d accepted = subst AreComplete (sym accepted.told) (complete_canonical (data_told accepted.blocks) (told-complete accepted.blocks text accepted.sets_accepted accepted.data_accepted accepted.says))
+pub plain-complete : (text : List ℕ) (says : SaysData text) → AreComplete (built_of says.blocks).facts
+plain-complete text says = complete_canonical (data_told says.blocks) (told-complete says.blocks text says.sets_accepted says.data_accepted says.says)
+
+changed-complete : (changes : Option (List ℕ)) (built next : Built) → AreComplete built.facts → changed_by changes built ≡ Ok next → AreComplete next.facts
+changed-complete None built next complete is = let same : built ≡ next = cc is in subst (λ (n : Built). AreComplete n.facts) same complete
+changed-complete (Some changes) built next complete is = file_complete built next changes complete is
+
+pub accepted-complete : (source : Source) (d : Data) → Accepted source d → AreComplete d
+accepted-complete source d accepted = changed-complete source.changes (built_of accepted.says.blocks) _ (plain-complete source.text accepted.says) accepted.told
+
+-- the sets are those of the data file, whatever its changes
+changed-sets : (changes : Option (List ℕ)) (built next : Built) → changed_by changes built ≡ Ok next → next.facts.sets ≡ built.facts.sets
+changed-sets None built next is = let same : built ≡ next = cc is in sym (ap (λ (n : Built). n.facts.sets) same)
+changed-sets (Some changes) built next is = all_sets built next changes is
+
+pub accepted-sets : (source : Source) (d : Data) (accepted : Accepted source d) → d.sets ≡ set_lists accepted.says.blocks
+accepted-sets source d accepted = changed-sets source.changes (built_of accepted.says.blocks) _ accepted.told

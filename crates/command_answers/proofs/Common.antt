@@ -4,7 +4,7 @@ pub use Rattle.certificate_checker.specs.Costs.{cost_of, model_cost}
 pub use Rattle.certified_answers.specs.Answers.{AreNamedIn}
 pub use Rattle.certified_answers.specs.Worth.{IsBound, IsClosed, IsDescent, IsNear, IsPlan, IsRefutation, multiplier_bound, plan_cost}
 pub use Rattle.certified_answers.specs.declared.costs.Cost.TheVariants.{Model, One}
-pub use Rattle.command_answers.specs.Accepted.{Accepted}
+pub use Rattle.command_answers.specs.Accepted.{Accepted, SaysData, Source, built_of, changed_by, plain, source_of}
 pub use Rattle.command_answers.specs.CheckedPlans.{AreFeasible, BoundsFeasible, IsBookOf, IsListedBook, NoneIsFeasible}
 pub use Rattle.command_answers.specs.Definers.{definer, definers}
 pub use Rattle.command_answers.specs.Limits.{IsWithinLimits, PassesLimits}

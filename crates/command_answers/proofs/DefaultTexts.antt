@@ -1,6 +1,6 @@
 -- Texts of a data section that name the members of sets and the defaults of parameters, a line each: they say just that.
 use Rattle.std.proofs.Common.{◌≡◌, ◌≢◌, ℕ, ℤ, Bool, true, false, inr, List, [], ◌∷◌, ◌++◌, map, codes, Option, Some, None, refl, ap}
-use Rattle.command_answers.proofs.Common.{list_all, Blocks, Means, IsLoose, blocks_of, reading, set_number, param_number, Says}
+use Rattle.command_answers.proofs.Common.{list_all, Means, IsLoose, blocks_of, reading, set_number, param_number, Says}
 use Rattle.mathprog_data.proofs.NamesOnce.{new-names}
 use Rattle.mathprog_data.proofs.NumberReadingLaws.{reading-Reads}
 use Rattle.mathprog_data.proofs.RunLaws.{are_new, first_true, second_true}

@@ -10,7 +10,7 @@ use Rattle.simplex_core.specs.declared.stops.TrialStop.TheVariants as trials
 use Rattle.command_answers.specs.declared.status.ReadStop.TheVariants as stops
 use Rattle.command_answers.specs.declared.status.Status.TheVariants.{Infeasible, Unbounded}
 use Rattle.command_answers.specs.Codes.{code_of}
-use Rattle.command_answers.specs.Lines.{entries_line, stop_line, too_large_line, too_long_line, uncertified_line, words_line}
+use Rattle.command_answers.specs.Lines.{entries_line, stop_line, too_large_line, too_long_line, uncertified_line, unguessed_line, words_line}
 use Rattle.command_answers.specs.PlanFaultLines.{multiplier_fault_line, plan_fault_line}
 use Rattle.model_sets.specs.declared.set_numbers.TheConstants.{EMISSION, YEAR}
 
@@ -67,7 +67,7 @@ stopped = refl
 
 -- ---- rows and sizes
 
-sizes : entries_line ∷ too_large_line 20001 40 ∷ [] ≡ codes "refused too many entries\n" ∷ codes "refused too large 20001 40\n" ∷ []
+sizes : entries_line ∷ too_large_line 20001 40 ∷ unguessed_line 1000000 ∷ [] ≡ codes "refused too many entries\n" ∷ codes "refused too large 20001 40\n" ∷ codes "uncertified guesses 1000000\n" ∷ []
 unfolding digits
 sizes = refl
 

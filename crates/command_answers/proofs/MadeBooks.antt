@@ -1,6 +1,6 @@
 -- What is known of a book of rows that was made of a model.
 use Rattle.command_answers.proofs.Common.{◌≡◌, ℕ, true, List, inl, inr, Contains, AllByRecursion, Data, Row, Var, ascends, var_cmp, all_variables, exists, instances, Has-from_Contains, AreRowsOf, Book, CanBeMade, IsWithinSets, all-has, IsBookOf, IsWithinLimits, PassesLimits, DueBySize, DueForProgram, IsMadeBook, Status}
-use Rattle.row_book.proofs.SameRows as over_rows
+use Rattle.command_words.specs.declared.command.SolveMethod.{SolveMethod}
 use Rattle.command_answers.proofs.CheckedRows.{vars-are}
 use Rattle.command_answers.proofs.ListedNames.{rows-listed, vars-listed}
 
@@ -27,8 +27,8 @@ program-due Over places d book made status text due = inl (record { made = made.
 
 module _ (places : ℕ) (d : Data) (rows : List Row) (vars : List Var) (book : IsBookOf places d rows vars) where
   -- a book is within the limits, or isn't, as its data say
-  pub within-due : (Found Over : Status → List ℕ → Type 0) (status : Status) (text : List ℕ) → IsWithinLimits rows vars → Over status text → DueBySize Found Over rows (all_variables d) status text
-  within-due Found Over status text within due = inr (inr (rw (vars-are places d rows vars book) at within, due))
+  pub within-due : (method : SolveMethod) (pivots : ℕ) (Found Over : Status → List ℕ → Type 0) (status : Status) (text : List ℕ) → IsWithinLimits rows vars → Over status text → DueBySize method pivots Found Over rows (all_variables d) status text
+  within-due method pivots Found Over status text within due = inr (inr (rw (vars-are places d rows vars book) at within, due))
 
-  pub large-due : (Found Over : Status → List ℕ → Type 0) (status : Status) (text : List ℕ) → PassesLimits rows vars status text → DueBySize Found Over rows (all_variables d) status text
-  large-due Found Over status text large = inr (inl (rw (vars-are places d rows vars book) at large))
+  pub large-due : (method : SolveMethod) (pivots : ℕ) (Found Over : Status → List ℕ → Type 0) (status : Status) (text : List ℕ) → PassesLimits method pivots rows vars status text → DueBySize method pivots Found Over rows (all_variables d) status text
+  large-due method pivots Found Over status text large = inr (inl (rw (vars-are places d rows vars book) at large))

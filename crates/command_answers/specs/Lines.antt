@@ -44,6 +44,10 @@ entries_line = line (codes "refused too many entries")
 abbrev pub too_large_line : ℕ → ℕ → List ℕ
 too_large_line rows columns = line (codes "refused too large " ++ decimal rows ++ codes " " ++ decimal columns)
 
+-- the line for such a linear program where the rounded method is asked for, and no guess is accepted that makes at most so many pivots
+abbrev pub unguessed_line : ℕ → List ℕ
+unguessed_line pivots = line (codes "uncertified guesses " ++ decimal pivots)
+
 -- the line for a file of values to start from, the answer of another solver or a plan, that breaks its form at this line first
 abbrev pub start_fault_line : ℕ → List ℕ
 start_fault_line number = line (codes "refused answer line " ++ decimal number)

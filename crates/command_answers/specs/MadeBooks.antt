@@ -10,6 +10,7 @@ use Rattle.command_answers.specs.CheckedPlans.{IsBookOf, IsListedBook}
 use Rattle.command_answers.specs.Limits.{IsWithinLimits, PassesLimits}
 use Rattle.command_answers.specs.MadeRows.{IsMadeFor, IsTooLarge, IsUncertified}
 use Rattle.command_answers.specs.declared.answer.Answer.{Answer}
+use Rattle.command_words.specs.declared.command.SolveMethod.{SolveMethod}
 use Rattle.command_answers.specs.declared.status.Status.{Status}
 
 -- every row of the named equations can be made, and the book holds them, and the variables
@@ -28,9 +29,9 @@ HasNoRows places d status text = IsUncertified places d status text ⊎ IsTooLar
 abbrev pub DueForProgram : (List Row → Status → List ℕ → Type 0) → ℕ → Data → Status → List ℕ → Type 0
 DueForProgram Over places d status text = IsMadeFor places d (λ rows. Over rows status text) ⊎ HasNoRows places d status text
 
--- Of rows: `Found` whatever the size of their linear program; or, by the size, that it is too large, or `Over` where it isn't.
-abbrev pub DueBySize : (Found Over : Status → List ℕ → Type 0) → List Row → List Var → Status → List ℕ → Type 0
-DueBySize Found Over rows vars status text = Found status text ⊎ PassesLimits rows vars status text ⊎ (IsWithinLimits rows vars × Over status text)
+-- Of rows: `Found` whatever the size of their linear program; or, by the size, what is told with this method and so many pivots where it is too large, or `Over` where it isn't.
+abbrev pub DueBySize : SolveMethod → ℕ → (Found Over : Status → List ℕ → Type 0) → List Row → List Var → Status → List ℕ → Type 0
+DueBySize method pivots Found Over rows vars status text = Found status text ⊎ PassesLimits method pivots rows vars status text ⊎ (IsWithinLimits rows vars × Over status text)
 
 -- ---- a book, or the answer where there is none
 

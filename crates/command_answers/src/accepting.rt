@@ -1,5 +1,6 @@
 // From the text of a data file to its data, or to the answer that refuses it. Every command begins here.
-ghost use Rattle.std.specs.Prelude.{◌≡◌, ◌≤◌, List, ℕ, None, length, IfOk, MatchResult, ⊤};
+ghost use Rattle.std.specs.Prelude.{◌≡◌, ◌≤◌, List, ℕ, None, Ok, length, option_map, IfOk, MatchResult, ⊤};
+ghost use Rattle.data_changes.specs.Told.{NamesIndex, fault_told};
 ghost use Rattle.mathprog_data.specs.BlocksView.{blocks_told};
 ghost use Rattle.mathprog_data.specs.Pieces.{StandsFor};
 ghost use Rattle.mathprog_data.specs.Verdicts.{FaultAt, Says};
@@ -13,16 +14,17 @@ ghost use Rattle.param_tables.specs.Refusals.{first_refusal};
 ghost use Rattle.param_tables.specs.SetRefusals.{first_set_refusal};
 ghost use Rattle.param_tables.specs.Told.{NamesCell, refusal_told};
 ghost use Rattle.command_answers.specs.declared.status.Status.{Status};
-ghost use Rattle.command_answers.specs.Accepted.{Accepted, most_bytes};
-ghost use Rattle.command_answers.specs.NotAccepted.{DueWhereNotAccepted, RefusesBlocks, RefusesData, RefusesText};
-ghost use Rattle.command_answers.specs.RefusalLines.{data_line, set_line, text_line};
+ghost use Rattle.command_answers.specs.Accepted.{Accepted, SaysData, Source, built_of, changed_by, most_bytes, plain, source_of};
+ghost use Rattle.command_answers.specs.NotAccepted.{DueWhereNotAccepted, RefusesBlocks, RefusesData, RefusesFile, RefusesText, RefusesTold};
+ghost use Rattle.command_answers.specs.RefusalLines.{changes_line, data_line, set_line, text_line};
 
 use crate::answer::Answer;
-use crate::refusal_lines::{data_line, set_line, text_line};
+use crate::refusal_lines::{changes_line, data_line, set_line, text_line};
 use crate::status::{Refusal, Status};
+use data_changes::{ChangesFail, ChangesFault, change_data};
 use mathprog_data::{Blocks, DataFault, PieceReader, ReadFail, verdict_laws};
 use model_sets::{SetFail, SetFault, Sets};
-use param_tables::{BuildFail, BuildFault, ModelData, build, sets_of};
+use param_tables::{BuildFail, BuildFault, ModelData, OpenData, build, sets_of};
 use std::alloc::{AllocError, Global};
 
 /// The data of a text, or the answer for its first refusal: of the text, of its sets, or of its data.
@@ -31,28 +33,64 @@ use std::alloc::{AllocError, Global};
 pub fn accept(alloc: Global, text: Vec<u8>) -> Result<Result<ModelData, Answer>, AllocError>
     requires { length text.items ≤ most_bytes }
     ensures { IfOk result (λ verdict. MatchResult verdict
-        (λ model. (accepted : Accepted text.items model.facts) × (model.rounded ≡ accepted.blocks.rounded))
-        (λ answer. DueWhereNotAccepted text.items answer.status answer.text.items)) }
+        (λ model. (accepted : Accepted (plain text.items) model.facts) × (model.rounded ≡ accepted.rounded))
+        (λ answer. DueWhereNotAccepted (plain text.items) answer.status answer.text.items)) }
 {
     let reader = read_text(alloc, text)?;
-    accept_read(alloc, reader)
+    accept_read(alloc, reader, None)
 }
 
-/// The data of the text that a reader was fed, or the answer for its first refusal, as of `accept`.
+/// The data of the text that a reader was fed, with the changes of a file where there is one, or the answer for the first refusal: of the text,
+/// of its sets, of its data, or of the changes.
 ///
 /// What the reader keeps is gone when the data come back.
 pub fn accept_read(
     alloc: Global,
     reader: PieceReader,
+    changes: Option<&[u8]>,
 ) -> Result<Result<ModelData, Answer>, AllocError>
     requires { (text : List ℕ) × StandsFor reader text }
     ensures { (text : List ℕ) → StandsFor reader text → length text ≤ most_bytes → IfOk result (λ verdict. MatchResult verdict
-        (λ model. (accepted : Accepted text model.facts) × (model.rounded ≡ accepted.blocks.rounded))
-        (λ answer. DueWhereNotAccepted text answer.status answer.text.items)) }
+        (λ model. (accepted : Accepted (source_of text changes.entry) model.facts) × (model.rounded ≡ accepted.rounded))
+        (λ answer. DueWhereNotAccepted (source_of text changes.entry) answer.status answer.text.items)) }
+{
+    match accept_file(alloc, reader)? {
+        Ok(model) => accept_changes(alloc, model, changes),
+        Err(answer) => Ok(Err(answer)),
+    }
+}
+
+// The data of the text that a reader was fed, without changes, or the answer for its first refusal.
+fn accept_file(alloc: Global, reader: PieceReader) -> Result<Result<ModelData, Answer>, AllocError>
+    requires { (text : List ℕ) × StandsFor reader text }
+    ensures { (text : List ℕ) → StandsFor reader text → length text ≤ most_bytes → IfOk result (λ verdict. MatchResult verdict
+        (λ model. (says : SaysData text) × (model ≡ built_of says.blocks))
+        (λ answer. RefusesFile text answer.status answer.text.items)) }
 {
     match end_reading(alloc, reader)? {
         Ok(blocks) => accept_blocks(alloc, &blocks),
         Err(answer) => Ok(Err(answer)),
+    }
+}
+
+// Data with the changes of a file, where there is one, or the answer for the first that is refused.
+fn accept_changes(
+    alloc: Global,
+    model: ModelData,
+    changes: Option<&[u8]>,
+) -> Result<Result<ModelData, Answer>, AllocError>
+    ensures { IfOk result (λ verdict. MatchResult verdict
+        (λ changed. changed_by (option_map (λ text. text.now) changes.entry) model ≡ Ok changed)
+        (λ answer. RefusesTold (changed_by (option_map (λ text. text.now) changes.entry) model) model.facts.sets answer.status answer.text.items)) }
+{
+    let Some(text) = changes else {
+        return Ok(Ok(model));
+    };
+    let mut opened = OpenData::new(alloc, model)?;
+    match change_data(alloc, &mut opened, text) {
+        Ok(()) => Ok(Ok(opened.close(alloc)?)),
+        Err(ChangesFail::Fault(fault)) => Ok(Err(refuse_changes(alloc, fault, opened.sets())?)),
+        Err(ChangesFail::Memory) => Err(AllocError),
     }
 }
 
@@ -147,14 +185,26 @@ fn refuse_data(alloc: Global, fault: BuildFault, sets: &Sets) -> Result<Answer, 
     Ok(Answer { status, text })
 }
 
-/// Each text of at most 64 MiB has one data or one first refusal, whose line is one, and never both. The data are complete: their sets are
-/// by the rules, and each used parameter has a value in its range at each of its indices.
+// The answer to changes with a fault, which the sets name.
+fn refuse_changes(alloc: Global, fault: ChangesFault, sets: &Sets) -> Result<Answer, AllocError>
+    requires { NamesIndex sets.now fault.fault }
+    ensures { IfOk result (λ answer.
+        (answer.status ≡ Status.Refused (Refusal.Changes fault)) × (answer.text.items ≡ changes_line (fault_told sets.now fault))) }
+{
+    let text = changes_line(alloc, &fault, sets)?;
+    let status = Status::Refused(Refusal::Changes(fault));
+    Ok(Answer { status, text })
+}
+
+/// Each data file of at most 64 MiB has, with its changes, one data or one first refusal, whose line is one, and never both. The data are complete:
+/// their sets are by the rules, and each used parameter has a value in its range at each of its indices.
 pub fn acceptance_laws()
-    ensures one_data { (text : List ℕ) (d e : Data) → Accepted text d → Accepted text e → d ≡ e }
-    ensures complete { (text : List ℕ) (d : Data) → Accepted text d → AreComplete d }
-    ensures not_both { (text : List ℕ) (d : Data) (status : Status) (line : List ℕ) → Accepted text d → DueWhereNotAccepted text status line → ⊥ }
-    ensures one_line { (text : List ℕ) (status other : Status) (line another : List ℕ) →
-        DueWhereNotAccepted text status line → DueWhereNotAccepted text other another → line ≡ another }
+    ensures one_data { (source : Source) (d e : Data) → Accepted source d → Accepted source e → d ≡ e }
+    ensures one_count { (source : Source) (d e : Data) (a : Accepted source d) (b : Accepted source e) → a.rounded ≡ b.rounded }
+    ensures complete { (source : Source) (d : Data) → Accepted source d → AreComplete d }
+    ensures not_both { (source : Source) (d : Data) (status : Status) (line : List ℕ) → Accepted source d → DueWhereNotAccepted source status line → ⊥ }
+    ensures one_line { (source : Source) (status other : Status) (line another : List ℕ) →
+        DueWhereNotAccepted source status line → DueWhereNotAccepted source other another → line ≡ another }
 {
     verdict_laws();
 }

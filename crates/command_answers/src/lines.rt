@@ -2,7 +2,7 @@
 ghost use Rattle.std.specs.Prelude.{◌≡◌, ◌++◌, IfOk, OnOk, decimal};
 ghost use Rattle.model_sets.specs.Members.{SetLists};
 ghost use Rattle.mps_writer.specs.MpsText.{line};
-ghost use Rattle.command_answers.specs.Lines.{entries_line, no_reduced_line, start_fault_line, stop_line, too_large_line, too_long_line, trial_text, uncertified_line, words_line};
+ghost use Rattle.command_answers.specs.Lines.{entries_line, no_reduced_line, start_fault_line, stop_line, too_large_line, too_long_line, trial_text, uncertified_line, unguessed_line, words_line};
 ghost use Rattle.command_answers.specs.PlacesWithin.{PlaceIsWithin, TrialIsWithin};
 
 use crate::amounts::push_with_number;
@@ -114,6 +114,16 @@ pub fn too_large_line(alloc: Global, rows: u64, columns: u64) -> Result<Vec<u8>,
     let mut text = Vec::new(alloc);
     push_with_number(&mut text, b"refused too large ", rows)?;
     push_with_number(&mut text, b" ", columns)?;
+    text.extend_from_slice(b"\n")?;
+    Ok(text)
+}
+
+/// The line for such a linear program where no guess of at most so many pivots is accepted: `uncertified guesses N`.
+pub fn unguessed_line(alloc: Global, pivots: u64) -> Result<Vec<u8>, AllocError>
+    ensures { IfOk result (λ text. text.items ≡ unguessed_line pivots) }
+{
+    let mut text = Vec::new(alloc);
+    push_with_number(&mut text, b"uncertified guesses ", pivots)?;
     text.extend_from_slice(b"\n")?;
     Ok(text)
 }

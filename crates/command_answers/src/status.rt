@@ -4,6 +4,7 @@ ghost use Rattle.command_answers.specs.Codes.{code_of};
 
 use certificate_checker::Rejection;
 use command_words::WordFault;
+use data_changes::ChangesFault;
 use mathprog_data::DataFault;
 use model_sets::SetFault;
 use param_tables::BuildFault;
@@ -21,6 +22,8 @@ pub enum Status {
     Unbounded,
     /// The pivots that may be made were used up, or a number left 128 bits; or a trial of several stopped so.
     Uncertified(Stop),
+    /// No guess was accepted, of which each could make so many pivots, and the linear program is too large for the exact method to follow.
+    Unguessed(u64),
     /// A named rule for the input failed.
     Refused(Refusal),
     /// The words ask for nothing that the program does.
@@ -44,6 +47,8 @@ pub enum Refusal {
     Sets(SetFault),
     /// The data of the file have this fault first.
     Build(BuildFault),
+    /// The file of changes has this fault first.
+    Changes(ChangesFault),
     /// The file of the plan breaks this rule first.
     PlanFile(PlanFault),
     /// The file of multipliers breaks this rule first.
@@ -76,8 +81,8 @@ pub enum ReadStop {
 }
 
 impl Status {
-    /// The exit status: 0 for `Done`, 1 `Infeasible`, 2 `Unbounded`, 3 `Uncertified`, 4 `Refused`, 5 `Words`, 6 `ReadFault`, 7 `WriteFault`, 8 `Memory`,
-    /// 9 `Rejected`.
+    /// The exit status: 0 for `Done`, 1 `Infeasible`, 2 `Unbounded`, 3 `Uncertified` and `Unguessed`, 4 `Refused`, 5 `Words`, 6 `ReadFault`,
+    /// 7 `WriteFault`, 8 `Memory`, 9 `Rejected`.
     pub fn code(&self) -> u8
         ensures { result ≡ code_of self.now }
     {
@@ -85,7 +90,7 @@ impl Status {
             Status::Done => 0,
             Status::Infeasible => 1,
             Status::Unbounded => 2,
-            Status::Uncertified(_) => 3,
+            Status::Uncertified(_) | Status::Unguessed(_) => 3,
             Status::Refused(_) => 4,
             Status::Words(_) => 5,
             Status::ReadFault(_) => 6,

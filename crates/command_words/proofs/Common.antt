@@ -15,9 +15,8 @@ unfoldable pub use Rattle.command_words.specs.ClapWords.{clap_rows}
 pub use Rattle.command_words.specs.Forms.{Given, asks_for_rounded, described, entry_of, files_in, form_in, given_by, given_of_parts, is_command_in, repeats, repeats_none, said_by, suits, value_by, value_in}
 pub use Rattle.command_words.specs.LimitLists.{AreLimits, IsLimit, between_commas, exact_limit, few_ascending, is_ascending, limits_of, most_limits}
 unfoldable pub use Rattle.command_words.specs.LimitLists.{all_of, limit_of}
-pub use Rattle.command_words.specs.LimitNumbers.{NumbersAreFound, after_fraction, after_sign, fraction_in_front, has_digit, is_numeral, number_in, number_with, power_after, power_in, sign_in_front}
 pub use Rattle.command_words.specs.WordParts.{Apart, Chosen, File, Flag, HasSpelledParts, Joined, Name, Part, Spelling, Spells, end_files, end_words, flag_value, followed, is_equals, is_option, is_spelling, joined_value, names_option, option_in, option_parts, option_word, options, options_end, part_of, parts_from, parts_of, words_of}
-pub use Rattle.command_words.specs.Words.{Check, CheckProof, Compare, Curve, Explain, Make, Mps, Page, Reduce, Request, Solve, SolveFrom, Span, Table, Warn, asked, command_by, command_with, made, names_of, numbers_of, or_fault, text_of, word_at}
+pub use Rattle.command_words.specs.Words.{Check, CheckProof, Compare, Curve, Explain, Make, Mps, Page, Question, Reduce, Request, Solve, SolveFrom, Span, Table, Warn, asked, command_by, command_with, made, names_in, names_of, numbers_of, or_fault, text_of, with_changes, word_at}
 pub use Rattle.command_words.specs.declared.fault.WordFault.{WordFault}
 pub use Rattle.command_words.specs.declared.fault.WordFault.TheVariants.{BadCommand, BadForm, BadNumber, BadShow, GapAlone, NoCommand}
 pub use Rattle.scaled_decimals.specs.DecimalReading.{Reads, billionths, decimal_of, is_rounded, with_sign}

@@ -1,42 +1,30 @@
 -- The words ask for written factors of 6 or 9 decimal places, and for made files of sizes from 3 to 122.
-use Rattle.command_words.proofs.Common.{◌≡◌, ℕ, ℤ, inl, inr, List, [], ◌∷◌, Option, Some, None, Result, Ok, Err, Bool, true, false, cond, ◌&&◌, is_some, not, refl, ap, subst, nat_le, length, ◌≤◌, option_map, codes, slice_get, unwrap_or, IfSome, ⊤, is_ascii_digit, list_all, option_and_then, bytes_eq, digits_value, leb-true, WordFault, BadCommand, BadNumber, BadShow, GapAlone, Given, asks_for_rounded, form_in, given_by, is_command_in, AreLimits, limits_of, Request, Check, CheckProof, Mps, Solve, SolveFrom, Explain, Curve, Span, Make, Table, Page, Warn, Compare, Reduce, asked, command_by, command_with, made, numbers_of, or_fault, text_of, word_at, parts_of}
+use Rattle.command_words.proofs.Common.{◌≡◌, IfOk, ℕ, ℤ, inl, inr, List, [], ◌∷◌, Option, Some, None, Result, Ok, Err, Bool, true, false, cond, ◌&&◌, is_some, not, refl, ap, subst, nat_le, length, ◌≤◌, option_map, codes, slice_get, unwrap_or, IfSome, ⊤, is_ascii_digit, list_all, option_and_then, bytes_eq, digits_value, leb-true, WordFault, BadCommand, BadNumber, BadShow, GapAlone, Given, asks_for_rounded, form_in, given_by, is_command_in, AreLimits, limits_of, Question, Request, Check, Solve, SolveFrom, Explain, Curve, Span, Make, Compare, asked, command_by, command_with, made, numbers_of, or_fault, text_of, with_changes, word_at, parts_of}
 use Rattle.discount_factors.specs.Factors.{IsPlaces}
 use Rattle.command_words.specs.declared.forms.FormName.{FormName}
 use Rattle.command_words.specs.declared.forms.FormName.TheVariants as forms
 use Rattle.command_words.specs.declared.values.Numbers.{Numbers}
-use Rattle.command_words.specs.declared.command.CompareShow.{CompareShow}
 use Rattle.command_words.specs.declared.command.MakeShow.{MakeShow}
 use Rattle.command_words.specs.declared.command.SolveShow.{SolveShow}
 use Rattle.command_words.specs.declared.command.SolveMethod.{SolveMethod}
 use Rattle.command_words.specs.Forms as table
+use Rattle.command_words.specs.Ranges.{IsInRange}
 use Rattle.command_words.proofs.LimitLaws.{are_limits}
 use Rattle.command_words.specs.WordValues.{compare_show_of, make_show_of, method_of, number_or, places_of, size_of, solve_show_of}
+use Rattle.command_words.specs.Words.{asked_gap, usual_gap, usual_pivots}
 
 -- the size of a made file
 abbrev IsSize : ℕ → Type 0
 IsSize size = (3 ≤ size) × (size ≤ 122)
 
--- a request is for such factors or such a size, where there is one
-abbrev IsInRange : Result Request WordFault → Type 0
-IsInRange (Ok (Mps file places)) = IsPlaces places
-IsInRange (Ok (Check file plan multipliers gap places)) = IsPlaces places
-IsInRange (Ok (CheckProof file proof gap places)) = IsPlaces places
-IsInRange (Ok (Solve file gap pivots places show method)) = IsPlaces places
-IsInRange (Ok (SolveFrom file start gap pivots places show)) = IsPlaces places
-IsInRange (Ok (Explain file pivots places method)) = IsPlaces places
-IsInRange (Ok (Curve file region emission limits gap pivots places method)) = IsPlaces places × AreLimits limits
-IsInRange (Ok (Span file region technology year slack gap pivots places method)) = IsPlaces places
-IsInRange (Ok (Make size show)) = IsSize size
-IsInRange (Ok (Table file proof name exact gap places)) = IsPlaces places
-IsInRange (Ok (Page file proof gap places)) = IsPlaces places
-IsInRange (Ok (Warn file)) = ⊤
-IsInRange (Ok (Compare first first_proof second second_proof gap places show)) = IsPlaces places
-IsInRange (Ok (Reduce file places)) = IsPlaces places
-IsInRange (Err fault) = ⊤
+-- the question is in range, where there is one
+abbrev AreInRange : Result Question WordFault → Type 0
+AreInRange (Ok question) = IsInRange question
+AreInRange (Err fault) = ⊤
 
 -- the decimal places that numbers of options have
-numbers_places : (given : Given) (numbers : Numbers) → numbers_of given ≡ Some numbers → IsPlaces numbers.places
-numbers_places given numbers e = go (number_or (cond (asks_for_rounded given) 10 0) (given.value (codes "gap"))) (number_or 20000 (given.value (codes "pivots"))) (places_of (given.value (codes "places"))) (number_or 0 (given.value (codes "slack"))) (one (given.value (codes "places"))) e
+numbers_places : (name : FormName) (given : Given) (numbers : Numbers) → numbers_of name given ≡ Some numbers → IsPlaces numbers.places
+numbers_places name given numbers e = go (number_or (usual_gap name given) (given.value (codes "gap"))) (number_or (usual_pivots given) (given.value (codes "pivots"))) (places_of (given.value (codes "places"))) (number_or 0 (given.value (codes "slack"))) (one (given.value (codes "places"))) e
   where
     one : (value : Option (List ℕ)) → IfSome (places_of value) IsPlaces
     one None = inl refl
@@ -69,21 +57,21 @@ size_is text size e = go (nat_le 1 (length text) && nat_le (length text) 3 && li
     go false least most low high e = absurd cc
 
 -- what is made of each value that there may be is in range
-or_fault_in : {A : Type 0} (fault : WordFault) (found : Option A) (make : A → Result Request WordFault) → ((value : A) → found ≡ Some value → IsInRange (make value)) → IsInRange (or_fault fault found make)
+or_fault_in : {A : Type 0} (fault : WordFault) (found : Option A) (make : A → Result Question WordFault) → ((value : A) → found ≡ Some value → AreInRange (make value)) → AreInRange (or_fault fault found make)
 or_fault_in fault None make all = tt
 or_fault_in fault (Some value) make all = all value refl
 
-made_in : (name : FormName) (given : Given) (numbers : Numbers) → IsPlaces numbers.places → IsInRange (made name given numbers)
+made_in : (name : FormName) (given : Given) (numbers : Numbers) → IsPlaces numbers.places → AreInRange (made name given numbers)
 made_in forms.Mps given numbers places = places
 made_in forms.Check given numbers places = go (is_some (given.value (codes "gap")) && not (is_some (slice_get given.words 2)))
   where
-    go : (alone : Bool) → IsInRange (cond alone (Err GapAlone) (Ok (Check (word_at given 0) (word_at given 1) (slice_get given.words 2) numbers.gap numbers.places)))
+    go : (alone : Bool) → AreInRange (cond alone (Err GapAlone) (Ok (Check (word_at given 0) (word_at given 1) (slice_get given.words 2) numbers.gap numbers.places)))
     go true = tt
     go false = places
 made_in forms.CheckProof given numbers places = places
 made_in forms.Solve given numbers places = go (solve_show_of (given.value (codes "show"))) (method_of (given.value (codes "method")))
   where
-    go : (shown : Option SolveShow) (way : Option SolveMethod) → IsInRange (or_fault BadShow shown (λ s. or_fault BadShow way (λ w. Ok (Solve (word_at given 0) numbers.gap numbers.pivots numbers.places s w))))
+    go : (shown : Option SolveShow) (way : Option SolveMethod) → AreInRange (or_fault BadShow shown (λ s. or_fault BadShow way (λ w. Ok (Solve (word_at given 0) numbers.gap numbers.pivots numbers.places s w))))
     go None way = tt
     go (Some s) None = tt
     go (Some s) (Some w) = places
@@ -94,16 +82,16 @@ made_in forms.Explain given numbers places =
 made_in forms.Curve given numbers places = go (limits_of (word_at given 3)) (method_of (given.value (codes "method"))) (are_limits (word_at given 3))
   where
     go : (read : Option (List ℤ)) (way : Option SolveMethod) → IfSome read AreLimits
-        → IsInRange (or_fault BadNumber read (λ l. or_fault BadShow way (λ w. Ok (Curve (word_at given 0) (word_at given 1) (word_at given 2) l numbers.gap numbers.pivots numbers.places w))))
+        → AreInRange (or_fault BadNumber read (λ l. or_fault BadShow way (λ w. Ok (Curve (word_at given 0) (word_at given 1) (word_at given 2) l numbers.gap numbers.pivots numbers.places w))))
     go None way kept = tt
     go (Some l) None kept = tt
     go (Some l) (Some w) kept = (places, kept)
 made_in forms.Span given numbers places =
     or_fault_in BadShow (method_of (given.value (codes "method")))
-    (λ method. Ok (Span (word_at given 0) (word_at given 1) (word_at given 2) (word_at given 3) numbers.slack numbers.gap numbers.pivots numbers.places method)) (λ method _. places)
+    (λ method. Ok (Span (word_at given 0) (word_at given 1) (word_at given 2) (word_at given 3) numbers.slack (asked_gap given numbers) numbers.pivots numbers.places method)) (λ method _. places)
 made_in forms.Make given numbers places = go (size_of (word_at given 0)) (make_show_of (given.value (codes "show"))) (size_is (word_at given 0))
   where
-    go : (found : Option ℕ) (shown : Option MakeShow) → ((size : ℕ) → found ≡ Some size → IsSize size) → IsInRange (or_fault BadNumber found (λ n. or_fault BadShow shown (λ s. Ok (Make n s))))
+    go : (found : Option ℕ) (shown : Option MakeShow) → ((size : ℕ) → found ≡ Some size → IsSize size) → AreInRange (or_fault BadNumber found (λ n. or_fault BadShow shown (λ s. Ok (Make n s))))
     go None shown kept = tt
     go (Some n) None kept = tt
     go (Some n) (Some s) kept = kept n refl
@@ -115,57 +103,22 @@ made_in forms.Compare given numbers places =
     (λ show. Ok (Compare (word_at given 0) (word_at given 1) (word_at given 2) (word_at given 3) numbers.gap numbers.places show)) (λ show _. places)
 made_in forms.Reduce given numbers places = places
 
-in_range : (words : List (List ℕ)) → IsInRange (asked words)
-in_range [] = tt
-in_range (first ∷ words) = go (is_command_in table.forms first) (given_by (parts_of words))
+asked_for : (words : List (List ℕ)) → IfOk (asked words) (λ request. IsInRange request.question)
+asked_for [] = tt
+asked_for (first ∷ words) = go (is_command_in table.forms first) (given_by (parts_of words))
   where
-    by_form : (name : Option FormName) (given : Given) → IsInRange (command_by name given)
+    by_form : (name : Option FormName) (given : Given) → AreInRange (command_by name given)
     by_form None given = tt
-    by_form (Some name) given = or_fault_in BadNumber (numbers_of given) (made name given) (λ numbers is. made_in name given numbers (numbers_places given numbers is))
+    by_form (Some name) given = or_fault_in BadNumber (numbers_of name given) (made name given) (λ numbers is. made_in name given numbers (numbers_places name given numbers is))
 
-    go : (b : Bool) (found : Option Given) → IsInRange (cond b (command_with first found) (Err BadCommand))
+    kept : (given : Given) (answer : Result Question WordFault) → AreInRange answer → IfOk (with_changes given answer) (λ request. IsInRange request.question)
+    kept given (Ok question) is = is
+    kept given (Err fault) is = tt
+
+    go : (b : Bool) (found : Option Given) → IfOk (cond b (command_with first found) (Err BadCommand)) (λ request. IsInRange request.question)
     go true None = tt
-    go true (Some given) = by_form (form_in table.forms first given) given
+    go true (Some given) = kept given (command_by (form_in table.forms first given) given) (by_form (form_in table.forms first given) given)
     go false found = tt
 
-pub asked_places : (words : List (List ℕ)) (name : List ℕ) (places : ℕ) → asked words ≡ Ok (Mps name places) → IsPlaces places
-asked_places words name places e = subst IsInRange e (in_range words)
-
-pub check_places : (words : List (List ℕ)) (file plan : List ℕ) (multipliers : Option (List ℕ)) (gap places : ℕ) → asked words ≡ Ok (Check file plan multipliers gap places) → IsPlaces places
-check_places words file plan multipliers gap places e = subst IsInRange e (in_range words)
-
-pub check_proof_places : (words : List (List ℕ)) (file proof : List ℕ) (gap places : ℕ) → asked words ≡ Ok (CheckProof file proof gap places) → IsPlaces places
-check_proof_places words file proof gap places e = subst IsInRange e (in_range words)
-
-pub solve_places : (words : List (List ℕ)) (file : List ℕ) (gap pivots places : ℕ) (show : SolveShow) (method : SolveMethod) → asked words ≡ Ok (Solve file gap pivots places show method) → IsPlaces places
-solve_places words file gap pivots places show method e = subst IsInRange e (in_range words)
-
-pub solve_from_places : (words : List (List ℕ)) (file start : List ℕ) (gap pivots places : ℕ) (show : SolveShow) → asked words ≡ Ok (SolveFrom file start gap pivots places show) → IsPlaces places
-solve_from_places words file start gap pivots places show e = subst IsInRange e (in_range words)
-
-pub explain_places : (words : List (List ℕ)) (file : List ℕ) (pivots places : ℕ) (method : SolveMethod) → asked words ≡ Ok (Explain file pivots places method) → IsPlaces places
-explain_places words file pivots places method e = subst IsInRange e (in_range words)
-
-pub curve_places : (words : List (List ℕ)) (file region emission : List ℕ) (limits : List ℤ) (gap pivots places : ℕ) (method : SolveMethod)
-    → asked words ≡ Ok (Curve file region emission limits gap pivots places method) → IsPlaces places × AreLimits limits
-curve_places words file region emission limits gap pivots places method e = subst IsInRange e (in_range words)
-
-pub span_places : (words : List (List ℕ)) (file region technology year : List ℕ) (slack gap pivots places : ℕ) (method : SolveMethod)
-    → asked words ≡ Ok (Span file region technology year slack gap pivots places method) → IsPlaces places
-span_places words file region technology year slack gap pivots places method e = subst IsInRange e (in_range words)
-
-pub table_places : (words : List (List ℕ)) (file proof name : List ℕ) (exact : Bool) (gap places : ℕ) → asked words ≡ Ok (Table file proof name exact gap places) → IsPlaces places
-table_places words file proof name exact gap places e = subst IsInRange e (in_range words)
-
-pub page_places : (words : List (List ℕ)) (file proof : List ℕ) (gap places : ℕ) → asked words ≡ Ok (Page file proof gap places) → IsPlaces places
-page_places words file proof gap places e = subst IsInRange e (in_range words)
-
-pub compare_places : (words : List (List ℕ)) (first first_proof second second_proof : List ℕ) (gap places : ℕ) (show : CompareShow)
-    → asked words ≡ Ok (Compare first first_proof second second_proof gap places show) → IsPlaces places
-compare_places words first first_proof second second_proof gap places show e = subst IsInRange e (in_range words)
-
-pub reduce_places : (words : List (List ℕ)) (file : List ℕ) (places : ℕ) → asked words ≡ Ok (Reduce file places) → IsPlaces places
-reduce_places words file places e = subst IsInRange e (in_range words)
-
-pub make_size : (words : List (List ℕ)) (size : ℕ) (show : MakeShow) → asked words ≡ Ok (Make size show) → (3 ≤ size) × (size ≤ 122)
-make_size words size show e = subst IsInRange e (in_range words)
+pub in_range : (words : List (List ℕ)) (request : Request) → asked words ≡ Ok request → IsInRange request.question
+in_range words request is = subst (λ answer. IfOk answer (λ request. IsInRange request.question)) is (asked_for words)

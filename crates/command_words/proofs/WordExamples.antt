@@ -1,11 +1,12 @@
 -- What the words of the command line mean, computed on lines of words with blanks between.
-use Rattle.command_words.proofs.Common.{◌≡◌, ◌==◌, ℕ, List, [], ◌∷◌, map, pos, refl, slice_split, denominator, numerator, number_of, Bare, Minus, WordFault, NoCommand, BadCommand, BadForm, BadNumber, BadShow, GapAlone, all_of, limit_of, limits_of, number_in, Request, asked, names_of, Mps, Check, CheckProof, Solve, SolveFrom, Explain, Curve, Span, Make, Table, Page, Warn, Compare, Reduce, Chosen, Spells, Name, Apart, Joined, Flag, parts_of}
+use Rattle.command_words.proofs.Common.{◌≡◌, ◌==◌, ℕ, List, [], ◌∷◌, map, pos, refl, slice_split, denominator, numerator, number_of, WordFault, NoCommand, BadCommand, BadForm, BadNumber, BadShow, GapAlone, all_of, limit_of, limits_of, Question, Request, asked, names_in, names_of, Mps, Check, CheckProof, Solve, SolveFrom, Explain, Curve, Span, Make, Table, Page, Warn, Compare, Reduce, Chosen, Spells, Name, Apart, Joined, Flag, parts_of}
 use Rattle.std.specs.Prelude.{codes, Result, Ok, Err, Some, None, true, false}
 use Rattle.command_words.specs.declared.command.SolveShow.TheVariants.{Report, Plan, Multipliers, Proof, Line}
 use Rattle.command_words.specs.declared.command.CompareShow.TheVariants as compare
 use Rattle.command_words.specs.declared.command.MakeShow.TheVariants.{File, Summary}
 use Rattle.command_words.specs.declared.command.SolveMethod.TheVariants.{Exact, Rounded}
 use Rattle.command_words.specs.WordParts as parts
+unfoldable use Rattle.scaled_decimals.specs.NumberReading.{decimal_in}
 
 -- the words between blanks: two blanks have an empty word between them
 abbrev words_in : List ℕ → List (List ℕ)
@@ -15,9 +16,13 @@ words_in = slice_split (λ b. b == 32)
 abbrev AllAsk : Result Request WordFault → List (List ℕ) → Type 0
 AllAsk answer lines = map (λ line. asked (words_in line)) lines ≡ map (λ line. answer) lines
 
--- each of these lines asks for the command beside it
-abbrev Ask : List (List ℕ × Request) → Type 0
-Ask lines = map (λ line. asked (words_in line.0)) lines ≡ map (λ line. Ok line.1) lines
+-- the question alone, without changes
+abbrev alone : Question → Request
+alone question = record { question = question; changes = None; changes2 = None }
+
+-- each of these lines asks the question beside it
+abbrev Ask : List (List ℕ × Question) → Type 0
+Ask lines = map (λ line. asked (words_in line.0)) lines ≡ map (λ line. Ok (alone line.1)) lines
 
 -- ---- commands
 
@@ -28,7 +33,7 @@ no_words = refl
 bad_commands : AllAsk (Err BadCommand) (codes "" ∷ codes "explains f" ∷ codes "--gap 5" ∷ codes "mpz --help --help" ∷ codes "Table f p x" ∷ codes "pages f p" ∷ codes "reduced f" ∷ [])
 bad_commands = refl
 
--- options stand anywhere, in two words or one
+-- Options stand anywhere, in two words or one. The rounded method, and what is made of a proof, keep a gap of 10 millionths where none is given, `check` none.
 commands : Ask (
     (codes "mps f", Mps (codes "f") 6) ∷
     (codes "mps --places 9 f", Mps (codes "f") 9) ∷
@@ -44,34 +49,51 @@ commands : Ask (
     (codes "solve f --show multipliers", Solve (codes "f") 0 20000 6 Multipliers Exact) ∷
     (codes "solve f --show=line", Solve (codes "f") 0 20000 6 Line Exact) ∷
     (codes "solve f --method=exact --gap=3", Solve (codes "f") 3 20000 6 Report Exact) ∷
-    (codes "solve f --show proof --method=rounded", Solve (codes "f") 10 20000 6 Proof Rounded) ∷
-    (codes "solve --method=rounded f --gap=0", Solve (codes "f") 0 20000 6 Report Rounded) ∷
-    (codes "solve f --method rounded --start a", SolveFrom (codes "f") (codes "a") 10 20000 6 Report) ∷
+    (codes "solve f --show proof --method=rounded", Solve (codes "f") 10 1000000 6 Proof Rounded) ∷
+    (codes "solve --method=rounded f --gap=0", Solve (codes "f") 0 1000000 6 Report Rounded) ∷
+    (codes "solve f --method rounded --start a", SolveFrom (codes "f") (codes "a") 10 1000000 6 Report) ∷
     (codes "solve --places=9 --start=a --show line f --pivots=7 --gap=0 --method=rounded", SolveFrom (codes "f") (codes "a") 0 7 9 Line) ∷
     (codes "explain f", Explain (codes "f") 20000 6 Exact) ∷
     (codes "explain --pivots=7 f --places 9 --method=rounded", Explain (codes "f") 7 9 Rounded) ∷
-    (codes "span f R T 007", Span (codes "f") (codes "R") (codes "T") (codes "007") 0 0 20000 6 Exact) ∷
-    (codes "span --slack 100000 f R T 2020 --gap=3 --method=rounded --pivots=7 --places=9", Span (codes "f") (codes "R") (codes "T") (codes "2020") 100000 3 7 9 Rounded) ∷
+    (codes "explain f --method=rounded", Explain (codes "f") 1000000 6 Rounded) ∷
+    (codes "span f R T 007", Span (codes "f") (codes "R") (codes "T") (codes "007") 0 None 20000 6 Exact) ∷
+    (codes "span --slack 100000 f R T 2020 --gap=3 --method=rounded --pivots=7 --places=9", Span (codes "f") (codes "R") (codes "T") (codes "2020") 100000 (Some 3) 7 9 Rounded) ∷
+    (codes "span f R T 2020 --method=rounded", Span (codes "f") (codes "R") (codes "T") (codes "2020") 0 None 1000000 6 Rounded) ∷
     (codes "make 7", Make 7 File) ∷
     (codes "make --show summary 122", Make 122 Summary) ∷
-    (codes "table f p x", Table (codes "f") (codes "p") (codes "x") false 0 6) ∷
+    (codes "table f p x", Table (codes "f") (codes "p") (codes "x") false 10 6) ∷
     (codes "table f --gap=5 p --exact all --places 9", Table (codes "f") (codes "p") (codes "all") true 5 9) ∷
-    (codes "table --exact f p x", Table (codes "f") (codes "p") (codes "x") true 0 6) ∷
-    (codes "page f p", Page (codes "f") (codes "p") 0 6) ∷
+    (codes "table --exact f p x --gap=0", Table (codes "f") (codes "p") (codes "x") true 0 6) ∷
+    (codes "page f p", Page (codes "f") (codes "p") 10 6) ∷
     (codes "page --gap=5 p --places 9 f", Page (codes "p") (codes "f") 5 9) ∷
     (codes "warn f", Warn (codes "f")) ∷
-    (codes "compare f p g q", Compare (codes "f") (codes "p") (codes "g") (codes "q") 0 6 compare.Text) ∷
+    (codes "compare f p g q", Compare (codes "f") (codes "p") (codes "g") (codes "q") 10 6 compare.Text) ∷
     (codes "compare --gap=5 f p --show page --places 9 f q", Compare (codes "f") (codes "p") (codes "f") (codes "q") 5 9 compare.Page) ∷
     (codes "reduce f", Reduce (codes "f") 6) ∷
     (codes "reduce --places 9 f", Reduce (codes "f") 9) ∷ [])
 commands = refl
 
--- the rounded method of `curve` keeps a gap of 10 millionths
+-- the rounded method of `curve` keeps a gap of 10 millionths, and makes up to 1,000,000 pivots
 curves : Ask (
     (codes "curve f R CO2 4,7", Curve (codes "f") (codes "R") (codes "CO2") (pos 4000000000 ∷ pos 7000000000 ∷ []) 0 20000 6 Exact) ∷
-    (codes "curve --pivots=7 f R CO2 4 --places=9 --method=rounded", Curve (codes "f") (codes "R") (codes "CO2") (pos 4000000000 ∷ []) 10 7 9 Rounded) ∷ [])
-unfolding limit_of all_of number_of numerator denominator
+    (codes "curve --pivots=7 f R CO2 4 --places=9 --method=rounded", Curve (codes "f") (codes "R") (codes "CO2") (pos 4000000000 ∷ []) 10 7 9 Rounded) ∷
+    (codes "curve f R CO2 4 --method=rounded", Curve (codes "f") (codes "R") (codes "CO2") (pos 4000000000 ∷ []) 10 1000000 6 Rounded) ∷ [])
+unfolding limit_of all_of decimal_in number_of numerator denominator
 curves = refl
+
+-- every data file may have changes, and each of the two of `compare` its own, in any order; a model that is made has none
+changes : map (λ line. asked (words_in line)) (
+    codes "warn f --with c" ∷ codes "mps --with=c f" ∷ codes "solve f --with c --gap 5" ∷ codes "compare f p g q --with2=d" ∷ codes "compare --with2 d f p --with c g q" ∷ [])
+    ≡ Ok (record { question = Warn (codes "f"); changes = Some (codes "c"); changes2 = None })
+    ∷ Ok (record { question = Mps (codes "f") 6; changes = Some (codes "c"); changes2 = None })
+    ∷ Ok (record { question = Solve (codes "f") 5 20000 6 Report Exact; changes = Some (codes "c"); changes2 = None })
+    ∷ Ok (record { question = Compare (codes "f") (codes "p") (codes "g") (codes "q") 10 6 compare.Text; changes = None; changes2 = Some (codes "d") })
+    ∷ Ok (record { question = Compare (codes "f") (codes "p") (codes "g") (codes "q") 10 6 compare.Text; changes = Some (codes "c"); changes2 = Some (codes "d") }) ∷ []
+changes = refl
+
+no_changes : AllAsk (Err BadForm) (
+    codes "make 7 --with c" ∷ codes "solve f --with2 c" ∷ codes "page f p --with2=c" ∷ codes "solve f --with" ∷ codes "warn f --with c --with d" ∷ codes "warn f --wit c" ∷ [])
+no_changes = refl
 
 -- ---- faults of form
 
@@ -121,7 +143,7 @@ ends : Ask (
     (codes "check f p -- --gap", Check (codes "f") (codes "p") (Some (codes "--gap")) 0 6) ∷
     (codes "mps -- --", Mps (codes "--") 6) ∷
     (codes "mps f --", Mps (codes "f") 6) ∷
-    (codes "table --exact -- f --exact x", Table (codes "f") (codes "--exact") (codes "x") true 0 6) ∷
+    (codes "table --exact -- f --exact x", Table (codes "f") (codes "--exact") (codes "x") true 10 6) ∷
     (codes "warn -- --gap=5", Warn (codes "--gap=5")) ∷
     (codes "mps -", Mps (codes "-") 6) ∷
     (codes "mps ", Mps [] 6) ∷ [])
@@ -152,7 +174,7 @@ numbers_first = refl
 
 -- and so do limits
 limits_first : AllAsk (Err BadNumber) (codes "curve f R CO2 7,4" ∷ codes "curve f R CO2 x --method=fast" ∷ codes "curve f R CO2 x --gap=5 --method=rounded" ∷ [])
-unfolding limit_of all_of number_of numerator denominator
+unfolding limit_of all_of decimal_in number_of numerator denominator
 limits_first = refl
 
 bad_shows : AllAsk (Err BadShow) (
@@ -186,30 +208,31 @@ no_parts = refl
 
 -- ---- the files of a request: the members' names are none
 
-files : map names_of (
+files : map names_in (
     Check (codes "f") (codes "p") (Some (codes "m")) 0 6 ∷ SolveFrom (codes "f") (codes "a") 10 20000 6 Report ∷ Curve (codes "f") (codes "R") (codes "CO2") [] 0 7 6 Exact
-    ∷ Span (codes "f") (codes "R") (codes "T") (codes "2020") 0 0 7 6 Exact ∷ Make 3 File ∷ Compare (codes "f") (codes "p") (codes "g") (codes "q") 0 6 compare.Text ∷ [])
+    ∷ Span (codes "f") (codes "R") (codes "T") (codes "2020") 0 None 7 6 Exact ∷ Make 3 File ∷ Compare (codes "f") (codes "p") (codes "g") (codes "q") 0 6 compare.Text ∷ [])
     ≡ (codes "f" ∷ codes "p" ∷ codes "m" ∷ []) ∷ (codes "f" ∷ codes "a" ∷ []) ∷ (codes "f" ∷ []) ∷ (codes "f" ∷ []) ∷ [] ∷ (codes "f" ∷ codes "p" ∷ codes "g" ∷ codes "q" ∷ []) ∷ []
 files = refl
 
+-- those of changes are read last
+files_of_changes : map names_of (
+    record { question = Check (codes "f") (codes "p") (Some (codes "m")) 0 6; changes = Some (codes "c"); changes2 = None }
+    ∷ record { question = Compare (codes "f") (codes "p") (codes "g") (codes "q") 10 6 compare.Text; changes = None; changes2 = Some (codes "d") }
+    ∷ record { question = Compare (codes "f") (codes "p") (codes "g") (codes "q") 10 6 compare.Text; changes = Some (codes "c"); changes2 = Some (codes "d") } ∷ [])
+    ≡ (codes "f" ∷ codes "p" ∷ codes "m" ∷ codes "c" ∷ []) ∷ (codes "f" ∷ codes "p" ∷ codes "g" ∷ codes "q" ∷ codes "d" ∷ []) ∷ (codes "f" ∷ codes "p" ∷ codes "g" ∷ codes "q" ∷ codes "c" ∷ codes "d" ∷ []) ∷ []
+files_of_changes = refl
+
 -- ---- limits, in billionths
-
-negative_number : number_in (codes "-2.5e7") ≡ Some (record { sign = Minus; whole = codes "2"; fraction = Some (codes "5"); exponent = Some (record { capital = false; sign = Bare; digits = codes "7" }) })
-negative_number = refl
-
--- a point alone, a power of ten without digits, and a blank are no numbers
-no_numbers : map number_in (codes "." ∷ codes "1e" ∷ codes " 1" ∷ []) ≡ None ∷ None ∷ None ∷ []
-no_numbers = refl
 
 -- a sign may stand, also a minus before 0
 limits : map limits_of (codes "4,7.5,2e1" ∷ codes "-0,+4" ∷ codes "1,1.000000001" ∷ codes "1e15" ∷ [])
     ≡ Some (pos 4000000000 ∷ pos 7500000000 ∷ pos 20000000000 ∷ []) ∷ Some (pos 0 ∷ pos 4000000000 ∷ []) ∷ Some (pos 1000000000 ∷ pos 1000000001 ∷ []) ∷ Some (pos 1000000000000000000000000 ∷ []) ∷ []
-unfolding limit_of all_of number_of numerator denominator
+unfolding limit_of all_of decimal_in number_of numerator denominator
 limits = refl
 
 -- too great, rounded, negative, descending, equal, empty, with a comma at the end, and too many
 no_limits : map limits_of (
     codes "1000000000000000.000000001" ∷ codes "1e-10" ∷ codes "-1,4" ∷ codes "7,4" ∷ codes "4,4.0" ∷ [] ∷ codes "4," ∷ codes "0,1,2,3,4,5,6,7,8,9,10,11,12,13,14,15,16,17,18,19,20" ∷ [])
     ≡ None ∷ None ∷ None ∷ None ∷ None ∷ None ∷ None ∷ None ∷ []
-unfolding limit_of all_of number_of numerator denominator
+unfolding limit_of all_of decimal_in number_of numerator denominator
 no_limits = refl

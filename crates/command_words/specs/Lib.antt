@@ -2,7 +2,7 @@ pub mod ClapWords
 pub mod Commands
 pub mod Forms
 pub mod LimitLists
-pub mod LimitNumbers
+pub mod Ranges
 pub mod WordParts
 pub mod WordValues
 pub mod Words

@@ -3,8 +3,7 @@ use Rattle.std.specs.Prelude.{◌≡◌, ℕ, ◌≤◌, ◌≤ℤ◌, ◌^◌, 
 use Rattle.std.specs.List.{AllByRecursion, list_all, slice_split, zip}
 use Rattle.std.specs.Option.{option_and_then, option_map}
 use Rattle.scaled_decimals.specs.declared.reading.DecFault.{DecFault}
-use Rattle.scaled_decimals.specs.DecimalReading.{decimal_of}
-use Rattle.command_words.specs.LimitNumbers.{number_in}
+use Rattle.scaled_decimals.specs.NumberReading.{decimal_in}
 
 -- what a number reads as, where it isn't negative and isn't rounded to billionths
 abbrev pub exact_limit : Result (ℤ × Bool) DecFault → Option ℤ
@@ -14,7 +13,7 @@ exact_limit (Err fault) = None
 
 -- the limit that the text is, in billionths: a number from 0 to 10^15 that is a whole number of billionths
 unfoldable pub limit_of : List ℕ → Option ℤ
-limit_of text = option_and_then (λ p. exact_limit (decimal_of p)) (number_in text)
+limit_of text = exact_limit (decimal_in text)
 
 -- what each text gives, where each gives something
 unfoldable pub all_of : {A B : Type 0} → (A → Option B) → List A → Option (List B)

@@ -7,11 +7,12 @@ ghost use Rattle.command_words.specs.Commands.{request_of_result};
 use crate::fault::WordFault;
 use crate::forms::{FORMS, form_in, is_command_in};
 use crate::making::command_by;
-use crate::parsing::parse;
+use crate::parsing::{parse, value_of};
 use std::alloc::{AllocError, Global};
 
 /// A command with its files and options. `places` is how many decimal places written factors have: 6 or 9. `gap` is in millionths
-/// of the bound, and 10 where it is left out and the method is rounded; `pivots` is the most pivots that may be made.
+/// of the bound, and where it is left out 10 by the rounded method, and for `table`, `page` and `compare`, else 0; `pivots` is the most
+/// pivots that may be made, and where it is left out 1,000,000 by the rounded method, else 20,000.
 #[derive(Drop)]
 pub enum Command<'a> {
     /// `mps FILE [--places P]`: writes the named equations of a data file.
@@ -77,14 +78,15 @@ pub enum Command<'a> {
     },
     /// `span FILE REGION TECHNOLOGY YEAR [--slack PPM] [--gap PPM] [--pivots N] [--places P] [--method exact|rounded]`: says how little and
     /// how much of a technology a plan may build that costs at most `slack` millionths more than the least cost. `pivots` are those of
-    /// one trial. The exact method's cost is its bound, so `--gap` is taken beside `--method rounded` alone.
+    /// one trial. The exact method's cost is its bound, so `--gap` is taken beside `--method rounded` alone; where it is left out there, several
+    /// are tried in turn.
     Span {
         file: &'a str,
         region: &'a str,
         technology: &'a str,
         year: &'a str,
         slack: u32,
-        gap: u32,
+        gap: Option<u32>,
         pivots: u32,
         places: u8,
         method: SolveMethod,
@@ -134,6 +136,14 @@ pub enum Command<'a> {
     },
 }
 
+/// A command with the names of its files of changes (`--with`, `--with2`): that of its data file, or those of the two data files of `compare`.
+#[derive(Drop)]
+pub struct Request<'a> {
+    pub command: Command<'a>,
+    pub changes: Option<&'a str>,
+    pub changes2: Option<&'a str>,
+}
+
 /// What `solve` writes.
 #[derive(Clone, Copy, PartialEq, Eq)]
 pub enum SolveShow {
@@ -174,7 +184,7 @@ pub enum MakeShow {
 pub fn read_command<'a>(
     alloc: Global,
     words: &'a [String],
-) -> Result<Result<Command<'a>, WordFault>, AllocError>
+) -> Result<Result<Request<'a>, WordFault>, AllocError>
     ensures { IfOk result (λ answer.
         request_of_result answer ≡ asked (map string_bytes words.now)) }
 {
@@ -188,5 +198,12 @@ pub fn read_command<'a>(
     let Some(given) = parse(alloc, others)? else {
         return Ok(Err(WordFault::BadForm));
     };
-    command_by(alloc, form_in(&FORMS, word, &given), &given)
+    match command_by(alloc, form_in(&FORMS, word, &given), &given)? {
+        Ok(command) => Ok(Ok(Request {
+            command,
+            changes: value_of(&given, "with"),
+            changes2: value_of(&given, "with2"),
+        })),
+        Err(fault) => Ok(Err(fault)),
+    }
 }

@@ -32,7 +32,7 @@ pub enum FormName {
 pub type OptionEntry = (&'static str, bool);
 
 /// The options of all commands.
-pub const OPTIONS: [OptionEntry; 9] = [
+pub const OPTIONS: [OptionEntry; 11] = [
     ("gap", true),
     ("pivots", true),
     ("places", true),
@@ -42,6 +42,8 @@ pub const OPTIONS: [OptionEntry; 9] = [
     ("proof", true),
     ("start", true),
     ("exact", false),
+    ("with", true),
+    ("with2", true),
 ];
 
 type Names = &'static [&'static str];
@@ -52,28 +54,32 @@ type Form = (FormName, &'static str, usize, usize, Names, Names, Names);
 
 const NONE: Names = &[];
 
-const CHECKED: Names = &["gap", "places"];
+const WARNED: Names = &["with"];
 
-const PROVED: Names = &["gap", "places", "proof"];
+const WRITTEN: Names = &["places", "with"];
+
+const CHECKED: Names = &["gap", "places", "with"];
+
+const PROVED: Names = &["gap", "places", "proof", "with"];
 
 const PROOF: Names = &["proof"];
 
-const SOLVED: Names = &["gap", "pivots", "places", "show", "method"];
+const SOLVED: Names = &["gap", "pivots", "places", "show", "method", "with"];
 
 const START: Names = &["start"];
 
-const TRIED: Names = &["pivots", "places", "method"];
+const TRIED: Names = &["pivots", "places", "method", "with"];
 
-const SPANNED: Names = &["pivots", "places", "method", "slack"];
+const SPANNED: Names = &["pivots", "places", "method", "slack", "with"];
 
-const TABLED: Names = &["gap", "places", "exact"];
+const TABLED: Names = &["gap", "places", "exact", "with"];
 
-const COMPARED: Names = &["gap", "places", "show"];
+const COMPARED: Names = &["gap", "places", "show", "with", "with2"];
 
 /// The forms of all commands. The exact method of `curve` and `span` leaves no gap between cost and bound, so `--gap` belongs to
 /// their rounded one; and `solve` begins from an answer by its rounded method alone.
 pub const FORMS: [Form; 14] = [
-    (FormName::Mps, "mps", 1, 1, &["places"], NONE, NONE),
+    (FormName::Mps, "mps", 1, 1, WRITTEN, NONE, NONE),
     (FormName::Check, "check", 2, 3, CHECKED, NONE, NONE),
     (FormName::CheckProof, "check", 1, 1, PROVED, NONE, PROOF),
     (FormName::Solve, "solve", 1, 1, SOLVED, NONE, NONE),
@@ -84,9 +90,9 @@ pub const FORMS: [Form; 14] = [
     (FormName::Make, "make", 1, 1, &["show"], NONE, NONE),
     (FormName::Table, "table", 3, 3, TABLED, NONE, NONE),
     (FormName::Page, "page", 2, 2, CHECKED, NONE, NONE),
-    (FormName::Warn, "warn", 1, 1, NONE, NONE, NONE),
+    (FormName::Warn, "warn", 1, 1, WARNED, NONE, NONE),
     (FormName::Compare, "compare", 4, 4, COMPARED, NONE, NONE),
-    (FormName::Reduce, "reduce", 1, 1, &["places"], NONE, NONE),
+    (FormName::Reduce, "reduce", 1, 1, WRITTEN, NONE, NONE),
 ];
 
 /// The word is a command's of the table.

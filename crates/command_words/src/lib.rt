@@ -12,7 +12,6 @@ mod making;
 mod parsing;
 mod values;
 
-pub use command::{Command, CompareShow, MakeShow, SolveMethod, SolveShow, read_command};
+pub use command::{Command, CompareShow, MakeShow, Request, SolveMethod, SolveShow, read_command};
 pub use fault::WordFault;
-pub use limits::limit_laws;
 pub use parsing::spelled_parts;

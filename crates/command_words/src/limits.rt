@@ -1,7 +1,6 @@
 // The limits of `curve`: numbers of the data section, separated by commas and strictly ascending.
 ghost use Rattle.std.specs.Prelude.{◌≡◌, IfOk, map, option_map};
 ghost use Rattle.command_words.specs.LimitLists.{all_of, between_commas, exact_limit, is_ascending, limit_of, limits_of};
-ghost use Rattle.command_words.specs.LimitNumbers.{NumbersAreFound};
 
 use scaled_decimals::{DecFault, read_decimal};
 use std::alloc::{AllocError, Global};
@@ -75,8 +74,3 @@ fn is_ascending(limits: &[i128]) -> bool
         .zip(others)
         .all(|(limit, next)| *limit < *next)
 }
-
-/// The parts that are found of a number are those that spell its text, and none are found where nothing spells it.
-pub fn limit_laws()
-    ensures { NumbersAreFound }
-{}

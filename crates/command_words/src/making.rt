@@ -1,8 +1,8 @@
 // The command of each form: its words, and the values of its options.
 ghost use Rattle.std.specs.Prelude.{◌≡◌, IfOk};
 ghost use Rattle.command_words.specs.ClapWords.{given_of};
-ghost use Rattle.command_words.specs.Commands.{request_of_result};
-ghost use Rattle.command_words.specs.Words.{command_by, made, text_of, word_at};
+ghost use Rattle.command_words.specs.Commands.{question_of_result};
+ghost use Rattle.command_words.specs.Words.{asked_gap, command_by, made, text_of, word_at};
 ghost use Rattle.command_words.specs.declared.forms.FormName.TheVariants as forms;
 
 use crate::command::{Command, CompareShow, MakeShow, SolveMethod, SolveShow};
@@ -22,12 +22,12 @@ pub fn command_by<'a>(
     form: Option<FormName>,
     given: &ArgMatches<'a>,
 ) -> Result<Result<Command<'a>, WordFault>, AllocError>
-    ensures { IfOk result (λ answer. request_of_result answer ≡ command_by form (given_of given.now)) }
+    ensures { IfOk result (λ answer. question_of_result answer ≡ command_by form (given_of given.now)) }
 {
     let Some(form) = form else {
         return Ok(Err(WordFault::BadForm));
     };
-    match numbers_of(given) {
+    match numbers_of(form, given) {
         Some(numbers) => command_of(alloc, form, given, &numbers),
         None => Ok(Err(WordFault::BadNumber)),
     }
@@ -39,7 +39,7 @@ fn command_of<'a>(
     given: &ArgMatches<'a>,
     numbers: &Numbers,
 ) -> Result<Result<Command<'a>, WordFault>, AllocError>
-    ensures { IfOk result (λ answer. request_of_result answer ≡ made form (given_of given.now) numbers.now) }
+    ensures { IfOk result (λ answer. question_of_result answer ≡ made form (given_of given.now) numbers.now) }
 {
     match form {
         FormName::Mps => Ok(mps(given, numbers)),
@@ -84,7 +84,7 @@ fn text_of<'a>(given: &ArgMatches<'a>, name: &str) -> &'a str
 }
 
 fn mps<'a>(given: &ArgMatches<'a>, numbers: &Numbers) -> Result<Command<'a>, WordFault>
-    ensures { request_of_result result ≡ made forms.Mps (given_of given.now) numbers.now }
+    ensures { question_of_result result ≡ made forms.Mps (given_of given.now) numbers.now }
 {
     Ok(Command::Mps {
         file: word_at(given, 0),
@@ -93,7 +93,7 @@ fn mps<'a>(given: &ArgMatches<'a>, numbers: &Numbers) -> Result<Command<'a>, Wor
 }
 
 fn check<'a>(given: &ArgMatches<'a>, numbers: &Numbers) -> Result<Command<'a>, WordFault>
-    ensures { request_of_result result ≡ made forms.Check (given_of given.now) numbers.now }
+    ensures { question_of_result result ≡ made forms.Check (given_of given.now) numbers.now }
 {
     let multipliers = word_in(given, 2);
     if value_of(given, "gap").is_some() && multipliers.is_none() {
@@ -109,7 +109,7 @@ fn check<'a>(given: &ArgMatches<'a>, numbers: &Numbers) -> Result<Command<'a>, W
 }
 
 fn check_proof<'a>(given: &ArgMatches<'a>, numbers: &Numbers) -> Result<Command<'a>, WordFault>
-    ensures { request_of_result result ≡ made forms.CheckProof (given_of given.now) numbers.now }
+    ensures { question_of_result result ≡ made forms.CheckProof (given_of given.now) numbers.now }
 {
     Ok(Command::CheckProof {
         file: word_at(given, 0),
@@ -120,7 +120,7 @@ fn check_proof<'a>(given: &ArgMatches<'a>, numbers: &Numbers) -> Result<Command<
 }
 
 fn solve<'a>(given: &ArgMatches<'a>, numbers: &Numbers) -> Result<Command<'a>, WordFault>
-    ensures { request_of_result result ≡ made forms.Solve (given_of given.now) numbers.now }
+    ensures { question_of_result result ≡ made forms.Solve (given_of given.now) numbers.now }
 {
     let Some(show) = choice(&SOLVE_SHOWS, SolveShow::Report, value_of(given, "show")) else {
         return Err(WordFault::BadShow);
@@ -139,7 +139,7 @@ fn solve<'a>(given: &ArgMatches<'a>, numbers: &Numbers) -> Result<Command<'a>, W
 }
 
 fn solve_from<'a>(given: &ArgMatches<'a>, numbers: &Numbers) -> Result<Command<'a>, WordFault>
-    ensures { request_of_result result ≡ made forms.SolveFrom (given_of given.now) numbers.now }
+    ensures { question_of_result result ≡ made forms.SolveFrom (given_of given.now) numbers.now }
 {
     let Some(show) = choice(&SOLVE_SHOWS, SolveShow::Report, value_of(given, "show")) else {
         return Err(WordFault::BadShow);
@@ -155,7 +155,7 @@ fn solve_from<'a>(given: &ArgMatches<'a>, numbers: &Numbers) -> Result<Command<'
 }
 
 fn explain<'a>(given: &ArgMatches<'a>, numbers: &Numbers) -> Result<Command<'a>, WordFault>
-    ensures { request_of_result result ≡ made forms.Explain (given_of given.now) numbers.now }
+    ensures { question_of_result result ≡ made forms.Explain (given_of given.now) numbers.now }
 {
     let Some(method) = choice(&METHODS, SolveMethod::Exact, value_of(given, "method")) else {
         return Err(WordFault::BadShow);
@@ -173,7 +173,7 @@ fn curve<'a>(
     given: &ArgMatches<'a>,
     numbers: &Numbers,
 ) -> Result<Result<Command<'a>, WordFault>, AllocError>
-    ensures { IfOk result (λ answer. request_of_result answer ≡ made forms.Curve (given_of given.now) numbers.now) }
+    ensures { IfOk result (λ answer. question_of_result answer ≡ made forms.Curve (given_of given.now) numbers.now) }
 {
     let Some(limits) = limits_of(alloc, word_at(given, 3))? else {
         return Ok(Err(WordFault::BadNumber));
@@ -194,7 +194,7 @@ fn curve<'a>(
 }
 
 fn span<'a>(given: &ArgMatches<'a>, numbers: &Numbers) -> Result<Command<'a>, WordFault>
-    ensures { request_of_result result ≡ made forms.Span (given_of given.now) numbers.now }
+    ensures { question_of_result result ≡ made forms.Span (given_of given.now) numbers.now }
 {
     let Some(method) = choice(&METHODS, SolveMethod::Exact, value_of(given, "method")) else {
         return Err(WordFault::BadShow);
@@ -205,15 +205,25 @@ fn span<'a>(given: &ArgMatches<'a>, numbers: &Numbers) -> Result<Command<'a>, Wo
         technology: word_at(given, 2),
         year: word_at(given, 3),
         slack: numbers.slack,
-        gap: numbers.gap,
+        gap: asked_gap(given, numbers),
         pivots: numbers.pivots,
         places: numbers.places,
         method,
     })
 }
 
+// The gap, if one is given.
+fn asked_gap(given: &ArgMatches<'_>, numbers: &Numbers) -> Option<u32>
+    ensures { result ≡ asked_gap (given_of given.now) numbers.now }
+{
+    match value_of(given, "gap") {
+        Some(_) => Some(numbers.gap),
+        None => None,
+    }
+}
+
 fn make<'a>(given: &ArgMatches<'a>, _numbers: &Numbers) -> Result<Command<'a>, WordFault>
-    ensures { request_of_result result ≡ made forms.Make (given_of given.now) _numbers.now }
+    ensures { question_of_result result ≡ made forms.Make (given_of given.now) _numbers.now }
 {
     let Some(size) = number_within(word_at(given, 0), 3, 3, 122) else {
         return Err(WordFault::BadNumber);
@@ -225,7 +235,7 @@ fn make<'a>(given: &ArgMatches<'a>, _numbers: &Numbers) -> Result<Command<'a>, W
 }
 
 fn table<'a>(given: &ArgMatches<'a>, numbers: &Numbers) -> Result<Command<'a>, WordFault>
-    ensures { request_of_result result ≡ made forms.Table (given_of given.now) numbers.now }
+    ensures { question_of_result result ≡ made forms.Table (given_of given.now) numbers.now }
 {
     Ok(Command::Table {
         file: word_at(given, 0),
@@ -238,7 +248,7 @@ fn table<'a>(given: &ArgMatches<'a>, numbers: &Numbers) -> Result<Command<'a>, W
 }
 
 fn compare<'a>(given: &ArgMatches<'a>, numbers: &Numbers) -> Result<Command<'a>, WordFault>
-    ensures { request_of_result result ≡ made forms.Compare (given_of given.now) numbers.now }
+    ensures { question_of_result result ≡ made forms.Compare (given_of given.now) numbers.now }
 {
     let Some(show) = choice(&COMPARE_SHOWS, CompareShow::Text, value_of(given, "show")) else {
         return Err(WordFault::BadShow);

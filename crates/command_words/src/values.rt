@@ -6,9 +6,10 @@ ghost use Rattle.command_words.specs.ClapWords.{given_of};
 ghost use Rattle.command_words.specs.Forms.{asks_for_rounded, entry_of};
 ghost use Rattle.command_words.specs.WordParts.{named};
 ghost use Rattle.command_words.specs.WordValues.{choice, number_or, number_within};
-ghost use Rattle.command_words.specs.Words.{numbers_of};
+ghost use Rattle.command_words.specs.Words.{numbers_of, usual_gap, usual_pivots};
 
 use crate::command::{CompareShow, MakeShow, SolveMethod, SolveShow};
+use crate::forms::FormName;
 use crate::parsing::value_of;
 use clap::ArgMatches;
 
@@ -51,14 +52,13 @@ pub struct Numbers {
     pub slack: u32,
 }
 
-/// The numbers of the options. A gap that is left out is 0, and 10 by the rounded method.
-pub fn numbers_of(given: &ArgMatches<'_>) -> Option<Numbers>
-    ensures { result ≡ numbers_of (given_of given.now) }
+/// The numbers of the options of a form.
+pub fn numbers_of(form: FormName, given: &ArgMatches<'_>) -> Option<Numbers>
+    ensures { result ≡ numbers_of form (given_of given.now) }
 {
-    let usual_gap = if asks_for_rounded(given) { 10 } else { 0 };
     let (Some(gap), Some(pivots), Some(places), Some(slack)) = (
-        number_or(usual_gap, value_of(given, "gap")),
-        number_or(20_000, value_of(given, "pivots")),
+        number_or(usual_gap(form, given), value_of(given, "gap")),
+        number_or(usual_pivots(given), value_of(given, "pivots")),
         choice(&PLACES, 6, value_of(given, "places")),
         number_or(0, value_of(given, "slack")),
     ) else {
@@ -70,6 +70,27 @@ pub fn numbers_of(given: &ArgMatches<'_>) -> Option<Numbers>
         places,
         slack,
     })
+}
+
+// The gap where none is given. What is made of a proof allows that of a rounded one.
+fn usual_gap(form: FormName, given: &ArgMatches<'_>) -> u32
+    ensures { result ≡ usual_gap form (given_of given.now) }
+{
+    match form {
+        FormName::Table | FormName::Page | FormName::Compare => 10,
+        _ => { if asks_for_rounded(given) { 10 } else { 0 } }
+    }
+}
+
+// The most pivots where none are given. A pivot of the rounded method costs far less than one of the exact method.
+fn usual_pivots(given: &ArgMatches<'_>) -> u32
+    ensures { result ≡ usual_pivots (given_of given.now) }
+{
+    if asks_for_rounded(given) {
+        1_000_000
+    } else {
+        20_000
+    }
 }
 
 /// The value of `--method` is `rounded`.

@@ -8,30 +8,30 @@ use Rattle.command_words.specs.declared.command.CompareShow.{CompareShow}
 use Rattle.command_words.specs.declared.command.CompareShow.TheVariants.{Page, Text}
 use Rattle.plan_compare.specs.declared.scenario.Scenario.{Scenario}
 use Rattle.plan_compare.specs.Comparisons.{head_of}
-use Rattle.result_pages.specs.Pages.{Part, compare_page}
+use Rattle.result_pages.specs.Pages.{Part, Title, compare_page}
 use Rattle.compare_command.specs.declared.standing.Standing.TheVariants.{Planned, Planless}
 use Rattle.compare_command.specs.Compared.{AreTablesFor, ComparesProofs, Judged, Shows, Written, not_compared_text, part_of}
 use Rattle.compare_command.specs.Standings.{StandsAs}
 
 -- what a page shows
-abbrev part : List ℕ → List ℕ → List ℕ → Part
-part name said tables = record { name = name; said = said; tables = tables }
+abbrev part : Title → List ℕ → List ℕ → Part
+part title said tables = record { title = title; said = said; tables = tables }
 
 -- what is shown of two parts is shown of the scenarios whose parts they are
-pub parted : (show : CompareShow) (places : ℕ) (one two : Judged) (name name2 said said2 tables tables2 : List ℕ) (first second : Scenario) (text : List ℕ)
+pub parted : (show : CompareShow) (places : ℕ) (one two : Judged) (title title2 : Title) (said said2 tables tables2 : List ℕ) (first second : Scenario) (text : List ℕ)
     → said ≡ one.said → said2 ≡ two.said → AreTablesFor show places one.data_of one.rows one.proof tables → AreTablesFor show places two.data_of two.rows two.proof tables2
-    → Shows show (record { name = name; said = said; tables = tables }) (record { name = name2; said = said2; tables = tables2 }) first second text
-    → Shows show (part_of places name one) (part_of places name2 two) first second text
-parted Text places one two name name2 said said2 tables tables2 first second text same same2 are are2 shows = shows
-parted Page places one two name name2 said said2 tables tables2 first second text same same2 are are2 shows =
-    let of_one : part name said tables ≡ part_of places name one = ap (λ s. part name s tables) same ∙ ap (λ t. part name one.said t) are in
-    let of_two : part name2 said2 tables2 ≡ part_of places name2 two = ap (λ s. part name2 s tables2) same2 ∙ ap (λ t. part name2 two.said t) are2 in
-    shows ∙ ap (λ p. compare_page p (part name2 said2 tables2) (head_of first second)) of_one ∙ ap (λ p. compare_page (part_of places name one) p (head_of first second)) of_two
+    → Shows show (record { title = title; said = said; tables = tables }) (record { title = title2; said = said2; tables = tables2 }) first second text
+    → Shows show (part_of places title one) (part_of places title2 two) first second text
+parted Text places one two title title2 said said2 tables tables2 first second text same same2 are are2 shows = shows
+parted Page places one two title title2 said said2 tables tables2 first second text same same2 are are2 shows =
+    let of_one : part title said tables ≡ part_of places title one = ap (λ s. part title s tables) same ∙ ap (λ t. part title one.said t) are in
+    let of_two : part title2 said2 tables2 ≡ part_of places title2 two = ap (λ s. part title2 s tables2) same2 ∙ ap (λ t. part title2 two.said t) are2 in
+    shows ∙ ap (λ p. compare_page p (part title2 said2 tables2) (head_of first second)) of_one ∙ ap (λ p. compare_page (part_of places title one) p (head_of first second)) of_two
 
 module _ (written : Written) (one two : Judged) (status : Status) (text : List ℕ) where
   -- both have a plan
   pub planned : (proof proof2 : Proof) (first second : Scenario) → StandsAs one.data_of one.rows proof (Planned first) → StandsAs two.data_of two.rows proof2 (Planned second)
-      → status ≡ Done → Shows written.show (part_of written.places written.name one) (part_of written.places written.name2 two) first second text → ComparesProofs written proof proof2 one two status text
+      → status ≡ Done → Shows written.show (part_of written.places written.title one) (part_of written.places written.title2 two) first second text → ComparesProofs written proof proof2 one two status text
   planned (Optimum plan multipliers) (Optimum plan2 multipliers2) first second is is2 done same =
       record { first = first; second = second; is_first = is; is_second = is2; status_is = done; shows = same }
   planned (Optimum plan multipliers) (Refutation multipliers2) first second is is2 done same = absurd is2

@@ -20,7 +20,7 @@ use Rattle.command_words.specs.declared.command.CompareShow.{CompareShow}
 use Rattle.command_words.specs.declared.command.CompareShow.TheVariants.{Page, Text}
 use Rattle.page_tables.specs.PageTables.{proof_tables}
 use Rattle.plan_tables.specs.declared.shown.NumberForm.TheVariants.{Decimals}
-use Rattle.result_pages.specs.Pages.{Part, compare_page}
+use Rattle.result_pages.specs.Pages.{Part, Title, compare_page}
 use Rattle.plan_compare.specs.declared.scenario.Scenario.{Scenario}
 use Rattle.plan_compare.specs.Comparisons.{compared_text, head_of}
 use Rattle.compare_command.specs.declared.scenarios.Which.{Which}
@@ -56,16 +56,16 @@ abbrev pub AreTablesFor : CompareShow → ℕ → Data → List Row → Proof �
 AreTablesFor Text places d rows proof tables = ⊤
 AreTablesFor Page places d rows proof tables = tables ≡ proof_tables Decimals places d rows proof
 
--- what a page shows of a scenario whose data file has this name
-abbrev pub part_of : ℕ → List ℕ → Judged → Part
-part_of places name judged = record { name = name; said = judged.said; tables = tables_of places judged }
+-- what a page shows of a scenario whose data have this name and these changes
+abbrev pub part_of : ℕ → Title → Judged → Part
+part_of places title judged = record { title = title; said = judged.said; tables = tables_of places judged }
 
--- how a comparison is written: with written factors of so many decimal places, and with the names of both data files
+-- how a comparison is written: with written factors of so many decimal places, and with the names and the changes of both data files
 pub record Written : Type 0 where
   pub show : CompareShow
   pub places : ℕ
-  pub name : List ℕ
-  pub name2 : List ℕ
+  pub title : Title
+  pub title2 : Title
 
 -- ---- two plans
 
@@ -89,7 +89,7 @@ pub record IsComparison (written : Written) (one two : Judged) (plan : List (Var
   pub is_first : IsScenario one.data_of one.rows plan multipliers first
   pub is_second : IsScenario two.data_of two.rows plan2 multipliers2 second
   pub status_is : status ≡ Done
-  pub shows : Shows written.show (part_of written.places written.name one) (part_of written.places written.name2 two) first second text
+  pub shows : Shows written.show (part_of written.places written.title one) (part_of written.places written.title2 two) first second text
 
 -- ---- no two plans
 

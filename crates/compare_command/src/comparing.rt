@@ -5,7 +5,7 @@ ghost use Rattle.row_core.specs.declared.Row.{Row};
 ghost use Rattle.command_answers.specs.ShownProofs.{HasWorth};
 ghost use Rattle.compare_command.specs.Compared.{AreTablesFor, Compares, IsOf, Judged, Shows, not_compared_text};
 ghost use Rattle.plan_compare.specs.Comparisons.{head_of};
-ghost use Rattle.result_pages.specs.Pages.{compare_page, part_of};
+ghost use Rattle.result_pages.specs.Pages.{compare_page, part_of, title_of};
 
 use crate::scenarios::{Proved, Which, push_scenario};
 use crate::standing::{Standing, standing_of};
@@ -30,7 +30,7 @@ pub fn answer_compare(
     requires second { (d : Data) × (rows : List Row) × HasWorth d rows second.accepted.now.proof second.accepted.now.worth }
     ensures { (places : ℕ) (one two : Judged) → IsOf one first.entry.sets.now first.entry.accepted.now → AreTablesFor show places one.data_of one.rows one.proof first.entry.tables.now
         → IsOf two second.entry.sets.now second.entry.accepted.now → AreTablesFor show places two.data_of two.rows two.proof second.entry.tables.now
-        → IfOk result (λ answer. Compares (record { show = show; places = places; name = first.entry.file.now; name2 = second.entry.file.now }) one two answer.status answer.text.items) }
+        → IfOk result (λ answer. Compares (record { show = show; places = places; title = title_of first.entry.title; title2 = title_of second.entry.title }) one two answer.status answer.text.items) }
 {
     match standing_of(first) {
         Standing::Planned(one) => match standing_of(second) {
@@ -46,10 +46,10 @@ pub fn answer_compare(
 
 // What a page shows of a scenario.
 fn part_of<'a>(proved: Proved<'a>) -> PagePart<'a>
-    ensures { part_of result ≡ record { name = proved.entry.file.now; said = proved.entry.accepted.now.said.items; tables = proved.entry.tables.now } }
+    ensures { part_of result ≡ record { title = title_of proved.entry.title; said = proved.entry.accepted.now.said.items; tables = proved.entry.tables.now } }
 {
     PagePart {
-        name: proved.file,
+        title: proved.title,
         said: proved.accepted.said.as_slice(),
         tables: proved.tables,
     }

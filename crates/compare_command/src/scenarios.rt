@@ -4,6 +4,7 @@ ghost use Rattle.compare_command.specs.Compared.{files_line};
 
 use command_answers::{AcceptedProof, Answer};
 use model_sets::Sets;
+use result_pages::Title;
 use std::alloc::{AllocError, Global};
 
 /// Which of the two scenarios. The files of the words are numbered from 1: the data file and the proof of the first scenario, and then
@@ -17,8 +18,8 @@ pub enum Which {
 /// A proof that `check` accepts, over the sets of its data.
 #[derive(Clone, Copy)]
 pub struct Proved<'a> {
-    /// The name of the data file, without its folders.
-    pub file: &'a [u8],
+    /// The data file.
+    pub title: Title<'a>,
     pub sets: &'a Sets,
     pub accepted: &'a AcceptedProof,
     /// The tables that its page is drawn from, where a page is written.

@@ -30,7 +30,7 @@ pub record HasRefusal (places : ℕ) (d : Data) (r e : ℕ) (wanted : Wanted) (l
   pub later : List ℤ
   pub split : limits_in earlier ++ limit ∷ later ≡ limits
   pub trials : AllByRecursion (IsTrialOf places d r e wanted) earlier
-  pub refuses : RefusesTrial places (with_limit d r e limit) status text
+  pub refuses : RefusesTrial places wanted (with_limit d r e limit) status text
 
 -- what is due for an emission in a region
 abbrev pub DueForLimits : ℕ → Data → ℕ → ℕ → Wanted → List ℤ → Status → List ℕ → Type 0

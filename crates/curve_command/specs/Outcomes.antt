@@ -53,7 +53,7 @@ pub record IsPointBy (sets : SetLists) (book : Book) (limit : RowName) (wanted :
 
 abbrev pub BookTells : SetLists → Book → RowName → Wanted → Trial → Type 0
 BookTells sets book limit wanted (trials.Ended point) = IsPointBy sets book limit wanted point
-BookTells sets book limit wanted (trials.Refused answer) = PassesLimits book.rows book.vars answer.status answer.text.items
+BookTells sets book limit wanted (trials.Refused answer) = PassesLimits wanted.method wanted.pivots book.rows book.vars answer.status answer.text.items
 
 -- why the rows can't be made: a width is the trial's stop, and too many entries are refused
 abbrev pub FailTells : SetLists → BookFail → Trial → Type 0
@@ -78,7 +78,7 @@ IsFoundOf places d member wanted found = IsTrialOf places d member.region member
 
 abbrev pub TrialTells : ℕ → Data → Limit → Wanted → Trial → Type 0
 TrialTells places d limit wanted (trials.Ended point) = IsFoundOf places d limit.member wanted (record { limit = limit.most; point = point })
-TrialTells places d limit wanted (trials.Refused answer) = RefusesTrial places (limited d limit) answer.status answer.text.items
+TrialTells places d limit wanted (trials.Refused answer) = RefusesTrial places wanted (limited d limit) answer.status answer.text.items
 
 -- with the rows that the next trial may take
 pub record TriedTells (places : ℕ) (d : Data) (limit : Limit) (wanted : Wanted) (tried : Tried) : Type 0 where

@@ -45,6 +45,6 @@ pub record IsTrialOf (places : ℕ) (d : Data) (r e : ℕ) (wanted : Wanted) (fo
   pub cause : EndsSo places (with_limit d r e found.0) (limit_at r e) wanted found.1
   pub true_end : EndIsTrue places d r e found.0 found.1
 
--- the trial refuses: its rows have too many entries, or their linear program is too large
-abbrev pub RefusesTrial : ℕ → Data → Status → List ℕ → Type 0
-RefusesTrial places d status text = IsTooLarge places d status text ⊎ IsMadeFor places d (λ rows. PassesLimits rows (all_variables d) status text)
+-- the trial refuses: its rows have too many entries, or their linear program is too large, and by the rounded method no guess is accepted besides
+abbrev pub RefusesTrial : ℕ → Wanted → Data → Status → List ℕ → Type 0
+RefusesTrial places wanted d status text = IsTooLarge places d status text ⊎ IsMadeFor places d (λ rows. PassesLimits wanted.method wanted.pivots rows (all_variables d) status text)

@@ -81,7 +81,7 @@ fn sized_trial(
     requires limit { IsRowOfSets sets.now limit }
     ensures { IfOk result (BookTells sets.now book.now limit wanted) }
 {
-    match refuse_large(alloc, book)? {
+    match refuse_large(alloc, book, wanted.method, u64::from(wanted.pivots))? {
         Some(answer) => Ok(Trial::Refused(answer)),
         None => {
             let point = exact_point(alloc, book, sets, limit, wanted, watcher)?;

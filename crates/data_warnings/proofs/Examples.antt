@@ -1,6 +1,7 @@
 -- The definitions computed on a small model: one region, two technologies, two fuels, two timeslices, and three years of which the third leaves a gap.
-use Rattle.data_warnings.proofs.Common.{◌≡◌, ℕ, ◌++◌, ◌∷◌, [], List, false, refl, pos, negsuc, set, digits, Default, Given, SetLists, Built, Finding, Rule, decimal_text, part_digits, found, place_at, above_line, asked_start, asked_text, bare_number, beside_text, crossed_line, default_line, default_text, first_names, for_first, last_line, line, lines_text, more_members, more_years, names_text, number_text, of_names, subject_text, unmade_line, unmade_text, years_text, whole}
+use Rattle.data_warnings.proofs.Common.{◌≡◌, ℕ, ◌++◌, ◌∷◌, [], List, false, refl, pos, negsuc, set, true, digits, Default, Given, SetLists, Built, Finding, Rule, decimal_text, part_digits, found, place_at, above_line, asked_start, asked_text, bare_number, beside_text, both_ways_line, both_ways_text, crossed_line, default_line, default_text, first_names, for_first, last_line, line, lines_text, members_line, members_text, more_members, more_years, names_text, number_text, of_names, plain_line, subject_text, unmade_line, unmade_text, years_text, whole}
 use Rattle.std.specs.Prelude.{codes, ℤ}
+use Rattle.discount_factors.specs.Factors.{annuity, discounted, recovery_factor}
 use Rattle.model_sets.specs.declared.param_numbers.TheConstants as param
 use Rattle.data_warnings.specs.declared.rules.Ceiling.TheVariants as ceiling
 use Rattle.data_warnings.specs.declared.rules.Cost.TheVariants as cost
@@ -285,6 +286,69 @@ no_odd_rate : found (small [] (by_default param.DISCOUNT_RATE (pos 50000000) ∷
 unfolding small small_sets at by_default told rt
 no_odd_rate = refl
 
+-- ---- routes
+
+-- two regions, which send F to each other in 2021
+two_regions : SetLists
+two_regions = set small_sets 0 (codes "R" ∷ codes "S" ∷ [])
+
+routes : ℤ → ℤ → Built
+routes there back =
+    record { facts = record { sets = two_regions; given = at param.TRADE_ROUTE (codes "R" ∷ codes "S" ∷ codes "F" ∷ codes "2021" ∷ []) there ∷ at param.TRADE_ROUTE (codes "S" ∷ codes "R" ∷ codes "F" ∷ codes "2021" ∷ []) back ∷ []; defaults = []; second = false }; rounded = 0 }
+
+-- nine tenths both ways: the pair is told once
+equal_route : found (routes (pos 900000000) (pos 900000000)) rule.EqualRoute ≡ told rule.EqualRoute 0 1 0 1 0 (pos 900000000) (pos 0) ∷ []
+unfolding routes two_regions small_sets at told
+equal_route = refl
+
+-- all of it, or a billionth apart
+whole_route : found (routes (whole 1) (whole 1)) rule.EqualRoute ≡ []
+unfolding routes two_regions small_sets at told
+whole_route = refl
+
+not_equal : found (routes (pos 900000000) (pos 900000001)) rule.EqualRoute ≡ []
+unfolding routes two_regions small_sets at told
+not_equal = refl
+
+unequal_route : found (routes (pos 900000000) (pos 900000001)) rule.UnequalRoute ≡ told rule.UnequalRoute 0 1 0 1 0 (pos 900000000) (pos 900000001) ∷ []
+unfolding routes two_regions small_sets at told
+unequal_route = refl
+
+not_unequal : found (routes (pos 900000000) (pos 900000000)) rule.UnequalRoute ≡ []
+unfolding routes two_regions small_sets at told
+not_unequal = refl
+
+-- a route without a way back is told as that alone
+no_way_back : found (routes (pos 900000000) (pos 0)) rule.UnequalRoute ++ found (routes (pos 0) (pos 900000000)) rule.UnequalRoute ≡ []
+unfolding routes two_regions small_sets at told
+no_way_back = refl
+
+-- ---- investments that are spread over lives
+
+-- T costs something in a year, under profile 2, at these rates and with this life
+spread : ℤ → ℤ → Built
+spread rate life =
+    record { facts = record { sets = small_sets; given = at param.CAPITAL_COST (rt (codes "T") (codes "2021")) (whole 5) ∷ []; defaults = by_default param.OPERATIONAL_LIFE life ∷ by_default param.DISCOUNT_RATE rate ∷ by_default param.DISCOUNT_RATE_IDV rate ∷ []; second = true }; rounded = 0 }
+
+-- at rate 0 a sixth is 0.166666, so that six of them are four millionths short; three thirds are one short, and no more
+coarse_sixths : found (spread (pos 0) (whole 6)) rule.CoarseRates ≡ told rule.CoarseRates 0 0 0 0 0 (pos 0) (pos 0) ∷ []
+unfolding spread small_sets at by_default told rt recovery_factor annuity
+coarse_sixths = refl
+
+thirds : found (spread (pos 0) (whole 3)) rule.CoarseRates ≡ []
+unfolding spread small_sets at by_default told rt recovery_factor annuity
+thirds = refl
+
+-- twenty years at 5 per cent are seven short
+coarse_rate : found (spread (pos 50000000) (whole 20)) rule.CoarseRates ≡ told rule.CoarseRates 0 0 0 0 0 (pos 0) (pos 0) ∷ []
+unfolding spread small_sets at by_default told rt recovery_factor annuity discounted
+coarse_rate = refl
+
+-- under profile 1 nothing is spread
+not_spread : found (small (at param.CAPITAL_COST (rt (codes "T") (codes "2021")) (whole 5) ∷ []) (by_default param.OPERATIONAL_LIFE (whole 6) ∷ [])) rule.CoarseRates ≡ []
+unfolding small small_sets at by_default told rt
+not_spread = refl
+
 -- ---- what is so by default
 
 -- T costs something in a year and lives one by default, and so does U
@@ -439,6 +503,18 @@ zero_limit_told = refl
 zero_emissions_told : line small_sets (told (rule.ZeroEmissions emission_limit.Annual) 0 0 0 0 0 (pos 0) (pos 0)) ≡ codes "warning AnnualEmissionLimit is 0 by default for R,E: 0 is a limit, -1 is none\n"
 unfolding small_sets told line default_line default_text bare_number for_first first_names more_members decimal_text part_digits digits
 zero_emissions_told = refl
+
+equal_route_told : line two_regions (told rule.EqualRoute 0 1 0 1 0 (pos 900000000) (pos 0)) ≡ codes "warning TradeRoute of R,S,F is 0.9 in 2021: equal both ways, it loses nothing; use a technology\n"
+unfolding two_regions small_sets told line plain_line number_text subject_text of_names names_text years_text more_years decimal_text part_digits digits
+equal_route_told = refl
+
+unequal_route_told : line two_regions (told rule.UnequalRoute 0 1 0 1 1 (pos 900000000) (pos 800000000)) ≡ codes "warning TradeRoute of R,S,F is 0.9 and back 0.8 in 2021 and 1 more year: one way makes energy, the other destroys it; use a technology\n"
+unfolding two_regions small_sets told line both_ways_line both_ways_text number_text subject_text of_names names_text years_text more_years decimal_text part_digits digits
+unequal_route_told = refl
+
+coarse_told : line small_sets (told rule.CoarseRates 0 0 0 1 3 (pos 0) (pos 0)) ≡ codes "warning DiscountRateIdv for R,U and 3 more: investments are more than a millionth off; use --places 9\n"
+unfolding small_sets told line members_line members_text for_first first_names more_members digits
+coarse_told = refl
 
 none : lines_text small_sets [] ≡ codes "warnings 0\n"
 unfolding small_sets last_line digits

@@ -1,6 +1,6 @@
 -- How lines of findings end: those after which plans may exist don't end in `: no plan`.
 use Rattle.std.proofs.Common.{◌≡◌, ℕ, ℤ, ◌+◌, ◌-◌, ◌*◌, ◌<◌, ◌≤◌, Bool, true, false, ◌&&◌, List, [], ◌∷◌, ◌++◌, length, nat_eq, get_or, fold, reverse, refl, sym, ap, ◌∙◌, subst, inl, inr, ◌⊎◌, if◌then◌else◌, arith, rules}
-use Rattle.data_warnings.proofs.Common.{codes, decimal, list_all, AreSets, SetLists, members, year, Finding, Place, Rule, YearSplitSum, YearGap, DiscountRate, UnprofiledDemand, ProfileSum, UnmadeDemand, StarvedTechnology, Disabled, Crossed, CrossedPeriod, Unreachable, ShortLives, LargeFactor, LargeAvailability, LargeTarget, SmallMargin, NegativeCost, Outlier, OneWayRoute, ZeroLimits, ZeroEmissions, HighLimits, IdleLimit, UnusedFuel, IdleTechnology, Rounded, decimal_text, frame_of, above_line, default_line, default_text, for_first, gap_line, gap_text, line, loose_line, member_line, more_members, more_years, names_text, nearest_text, number_text, outlier_line, pair_line, pair_text, plain_line, rounded_line, route_line, route_remark, route_start, said, starved_line, starved_text, subject_line, subject_text, sum_line, years_text, EndsIn, excludes_plans, no_plan_ending, name}
+use Rattle.data_warnings.proofs.Common.{codes, decimal, list_all, AreSets, SetLists, members, year, Finding, Place, Rule, YearSplitSum, YearGap, DiscountRate, UnprofiledDemand, ProfileSum, UnmadeDemand, StarvedTechnology, Disabled, Crossed, CrossedPeriod, Unreachable, ShortLives, CoarseRates, LargeFactor, LargeAvailability, LargeTarget, SmallMargin, NegativeCost, Outlier, OneWayRoute, EqualRoute, UnequalRoute, ZeroLimits, ZeroEmissions, HighLimits, IdleLimit, UnusedFuel, IdleTechnology, Rounded, decimal_text, frame_of, above_line, both_ways_line, both_ways_text, default_line, default_text, for_first, gap_line, gap_text, line, loose_line, member_line, members_line, members_text, more_members, more_years, names_text, nearest_text, number_text, outlier_line, pair_line, pair_text, plain_line, rounded_line, route_line, route_remark, route_start, said, starved_line, starved_text, subject_line, subject_text, sum_line, years_text, EndsIn, excludes_plans, no_plan_ending, name}
 use Rattle.std.specs.Char.{is_ascii_digit}
 use Rattle.std.proofs.lemmas.Bool.{cases_lt, eqb-true}
 use Rattle.std.proofs.lemmas.Fmt.{digits_decimal}
@@ -136,7 +136,7 @@ module _ (sets : SetLists) (are : AreSets sets) where
     then_years first rule last = after first (years_text sets (told rule)) (years_apart rule last)
 
     pub said-apart : (rule : Rule) → excludes_plans rule ≡ false → Apart (said sets (told rule) rule)
-    unfolding sum_line gap_line plain_line starved_line above_line loose_line outlier_line nearest_text route_line route_remark default_line subject_line pair_line member_line rounded_line
+    unfolding sum_line gap_line plain_line starved_line above_line loose_line outlier_line nearest_text route_line route_remark both_ways_line members_line default_line subject_line pair_line member_line rounded_line
     said-apart YearSplitSum e = then_years (subject_text sets (told YearSplitSum) ++ codes " sums to " ++ decimal_text n) YearSplitSum refl
     said-apart YearGap e = after (gap_text sets (told YearGap)) (codes ": what lies between the years costs and emits nothing") (ends (codes ": what lies between the years costs and emits nothin") 103 refl)
     said-apart DiscountRate e = after (number_text sets (told DiscountRate) ++ years_text sets (told DiscountRate)) (codes ": 0.05 is 5 per cent") (ends (codes ": 0.05 is 5 per cen") 116 refl)
@@ -149,6 +149,7 @@ module _ (sets : SetLists) (are : AreSets sets) where
     said-apart CrossedPeriod e = absurd (cc e)
     said-apart Unreachable e = absurd (cc e)
     said-apart ShortLives e = after (default_text (told ShortLives) ++ for_first sets (told ShortLives) ++ more_members more) (codes ": each is bought anew each year") (ends (codes ": each is bought anew each yea") 114 refl)
+    said-apart CoarseRates e = after (members_text sets (told CoarseRates)) (codes ": investments are more than a millionth off; use --places 9") (ends (codes ": investments are more than a millionth off; use --places ") 57 refl)
     said-apart LargeFactor e = then_years (subject_text sets (told LargeFactor) ++ codes " is above 1") LargeFactor refl
     said-apart LargeAvailability e = subst Apart (sym (append-nil (number_text sets (told LargeAvailability) ++ years_text sets (told LargeAvailability)))) (then_years (number_text sets (told LargeAvailability)) LargeAvailability refl)
     said-apart LargeTarget e = after (number_text sets (told LargeTarget) ++ years_text sets (told LargeTarget)) (codes ": 0.2 is 20 per cent") (ends (codes ": 0.2 is 20 per cen") 116 refl)
@@ -160,6 +161,8 @@ module _ (sets : SetLists) (are : AreSets sets) where
     said-apart OneWayRoute e =
         let remark = codes ": what " ++ name sets (frame_of OneWayRoute).first p.first ++ codes " gets, " ++ name sets (frame_of OneWayRoute).second p.second in
         after (route_start sets (told OneWayRoute) ++ years_text sets (told OneWayRoute)) (remark ++ codes " doesn't lose") (after remark (codes " doesn't lose") (ends (codes " doesn't los") 101 refl))
+    said-apart EqualRoute e = after (number_text sets (told EqualRoute) ++ years_text sets (told EqualRoute)) (codes ": equal both ways, it loses nothing; use a technology") (ends (codes ": equal both ways, it loses nothing; use a technolog") 121 refl)
+    said-apart UnequalRoute e = after (both_ways_text sets (told UnequalRoute) ++ years_text sets (told UnequalRoute)) (codes ": one way makes energy, the other destroys it; use a technology") (ends (codes ": one way makes energy, the other destroys it; use a technolog") 121 refl)
     said-apart (ZeroLimits limit) e = after (default_text (told (ZeroLimits limit)) ++ for_first sets (told (ZeroLimits limit)) ++ more_members more) (codes ": 0 is a limit, -1 is none") (ends (codes ": 0 is a limit, -1 is non") 101 refl)
     said-apart (ZeroEmissions limit) e = after (default_text (told (ZeroEmissions limit)) ++ for_first sets (told (ZeroEmissions limit)) ++ more_members more) (codes ": 0 is a limit, -1 is none") (ends (codes ": 0 is a limit, -1 is non") 101 refl)
     said-apart (HighLimits ceiling) e = after (subject_text sets (told (HighLimits ceiling))) (codes " has values of 99999 and more: -1 is no limit, and quicker") (ends (codes " has values of 99999 and more: -1 is no limit, and quicke") 114 refl)

@@ -5,7 +5,7 @@ use Rattle.param_tables.specs.Built.{Built}
 use Rattle.data_warnings.specs.declared.places.Finding.{Finding}
 use Rattle.data_warnings.specs.declared.places.Place.{Place}
 use Rattle.data_warnings.specs.declared.rules.Rule.{Rule}
-use Rattle.data_warnings.specs.declared.rules.Rule.TheVariants.{YearSplitSum, YearGap, DiscountRate, UnprofiledDemand, ProfileSum, UnmadeDemand, StarvedTechnology, Disabled, Crossed, CrossedPeriod, Unreachable, ShortLives, LargeFactor, LargeAvailability, LargeTarget, SmallMargin, NegativeCost, Outlier, OneWayRoute, ZeroLimits, ZeroEmissions, HighLimits, IdleLimit, UnusedFuel, IdleTechnology, Rounded}
+use Rattle.data_warnings.specs.declared.rules.Rule.TheVariants.{YearSplitSum, YearGap, DiscountRate, UnprofiledDemand, ProfileSum, UnmadeDemand, StarvedTechnology, Disabled, Crossed, CrossedPeriod, Unreachable, ShortLives, CoarseRates, LargeFactor, LargeAvailability, LargeTarget, SmallMargin, NegativeCost, Outlier, OneWayRoute, EqualRoute, UnequalRoute, ZeroLimits, ZeroEmissions, HighLimits, IdleLimit, UnusedFuel, IdleTechnology, Rounded}
 use Rattle.data_warnings.specs.declared.rules.Ceiling.TheVariants as ceiling
 use Rattle.data_warnings.specs.declared.rules.Pair.TheVariants as pair
 use Rattle.data_warnings.specs.declared.rules.Cost.TheVariants as cost
@@ -24,11 +24,11 @@ rules_in_order =
     YearSplitSum ∷ YearGap ∷ DiscountRate ∷ UnprofiledDemand ∷ ProfileSum ∷ UnmadeDemand ∷ StarvedTechnology
     ∷ Disabled enabler.Unit ∷ Disabled enabler.Availability ∷ Disabled enabler.Factors
     ∷ Crossed pair.Residual ∷ Crossed pair.Capacity ∷ Crossed pair.Investment ∷ Crossed pair.Activity ∷ CrossedPeriod ∷ Unreachable
-    ∷ ShortLives ∷ LargeFactor ∷ LargeAvailability ∷ LargeTarget ∷ SmallMargin
+    ∷ ShortLives ∷ CoarseRates ∷ LargeFactor ∷ LargeAvailability ∷ LargeTarget ∷ SmallMargin
     ∷ NegativeCost cost.Capital ∷ NegativeCost cost.Fixed ∷ NegativeCost cost.Variable
     ∷ Outlier series.CapitalCost ∷ Outlier series.FixedCost ∷ Outlier series.VariableCost
     ∷ Outlier series.SpecifiedAnnualDemand ∷ Outlier series.AccumulatedAnnualDemand ∷ Outlier series.ResidualCapacity
-    ∷ OneWayRoute
+    ∷ OneWayRoute ∷ EqualRoute ∷ UnequalRoute
     ∷ ZeroLimits limit.Capacity ∷ ZeroLimits limit.Investment ∷ ZeroLimits limit.Activity
     ∷ ZeroEmissions emission_limit.Annual ∷ ZeroEmissions emission_limit.ModelPeriod
     ∷ HighLimits (ceiling.Technology limit.Capacity) ∷ HighLimits (ceiling.Technology limit.Investment) ∷ HighLimits (ceiling.Technology limit.Activity)

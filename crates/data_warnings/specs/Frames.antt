@@ -6,7 +6,7 @@ use Rattle.data_warnings.specs.declared.rules.Cost.{Cost}
 use Rattle.data_warnings.specs.declared.rules.Cost.TheVariants as cost
 use Rattle.data_warnings.specs.declared.rules.Frame.{Frame}
 use Rattle.data_warnings.specs.declared.rules.Rule.{Rule}
-use Rattle.data_warnings.specs.declared.rules.Rule.TheVariants.{YearSplitSum, YearGap, DiscountRate, UnprofiledDemand, ProfileSum, UnmadeDemand, StarvedTechnology, Disabled, Crossed, CrossedPeriod, Unreachable, ShortLives, LargeFactor, LargeAvailability, LargeTarget, SmallMargin, NegativeCost, Outlier, OneWayRoute, ZeroLimits, ZeroEmissions, HighLimits, IdleLimit, UnusedFuel, IdleTechnology, Rounded}
+use Rattle.data_warnings.specs.declared.rules.Rule.TheVariants.{YearSplitSum, YearGap, DiscountRate, UnprofiledDemand, ProfileSum, UnmadeDemand, StarvedTechnology, Disabled, Crossed, CrossedPeriod, Unreachable, ShortLives, CoarseRates, LargeFactor, LargeAvailability, LargeTarget, SmallMargin, NegativeCost, Outlier, OneWayRoute, EqualRoute, UnequalRoute, ZeroLimits, ZeroEmissions, HighLimits, IdleLimit, UnusedFuel, IdleTechnology, Rounded}
 use Rattle.data_warnings.specs.declared.rules.Series.{Series}
 use Rattle.data_warnings.specs.declared.rules.Series.TheVariants as series
 use Rattle.data_warnings.specs.Values.{no_set}
@@ -43,8 +43,8 @@ abbrev pub by_region : Frame
 by_region = framed region no_set no_set no_set
 
 -- over the regions, and of each all members of the set together
-abbrev pub by_default_of : ℕ → Frame
-by_default_of last = framed region no_set no_set last
+abbrev pub together : ℕ → Frame
+together last = framed region no_set no_set last
 
 -- the sets of a rule
 abbrev pub frame_of : Rule → Frame
@@ -59,7 +59,8 @@ frame_of (Disabled enabler) = framed region technology no_set no_set
 frame_of (Crossed pair) = by_technology
 frame_of CrossedPeriod = framed region technology no_set no_set
 frame_of Unreachable = by_technology
-frame_of ShortLives = by_default_of technology
+frame_of ShortLives = together technology
+frame_of CoarseRates = together technology
 frame_of LargeFactor = by_technology
 frame_of LargeAvailability = by_technology
 frame_of LargeTarget = framed region no_set no_set year
@@ -67,8 +68,10 @@ frame_of SmallMargin = framed region no_set no_set year
 frame_of (NegativeCost cost) = cost_frame cost
 frame_of (Outlier series) = series_frame series
 frame_of OneWayRoute = framed region region fuel year
-frame_of (ZeroLimits limit) = by_default_of technology
-frame_of (ZeroEmissions limit) = by_default_of emission
+frame_of EqualRoute = framed region region fuel year
+frame_of UnequalRoute = framed region region fuel year
+frame_of (ZeroLimits limit) = together technology
+frame_of (ZeroEmissions limit) = together emission
 frame_of (HighLimits ceiling) = by_region
 frame_of IdleLimit = framed region emission no_set no_set
 frame_of UnusedFuel = framed region fuel no_set no_set

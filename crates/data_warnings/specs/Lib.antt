@@ -1,6 +1,7 @@
 pub mod Decimals
 pub mod Findings
 pub mod Frames
+pub mod Investments
 pub mod Limits
 pub mod Lines
 pub mod Makers

@@ -8,7 +8,7 @@ use Rattle.model_sets.specs.Params.{param_word}
 use Rattle.model_sets.specs.declared.param_numbers.TheConstants.{TOTAL_ANNUAL_MAX_CAPACITY, TOTAL_TECHNOLOGY_MODEL_PERIOD_ACTIVITY_UPPER_LIMIT}
 use Rattle.data_warnings.specs.declared.places.Finding.{Finding}
 use Rattle.data_warnings.specs.declared.rules.Rule.{Rule}
-use Rattle.data_warnings.specs.declared.rules.Rule.TheVariants.{YearSplitSum, YearGap, DiscountRate, UnprofiledDemand, ProfileSum, UnmadeDemand, StarvedTechnology, Disabled, Crossed, CrossedPeriod, Unreachable, ShortLives, LargeFactor, LargeAvailability, LargeTarget, SmallMargin, NegativeCost, Outlier, OneWayRoute, ZeroLimits, ZeroEmissions, HighLimits, IdleLimit, UnusedFuel, IdleTechnology, Rounded}
+use Rattle.data_warnings.specs.declared.rules.Rule.TheVariants.{YearSplitSum, YearGap, DiscountRate, UnprofiledDemand, ProfileSum, UnmadeDemand, StarvedTechnology, Disabled, Crossed, CrossedPeriod, Unreachable, ShortLives, CoarseRates, LargeFactor, LargeAvailability, LargeTarget, SmallMargin, NegativeCost, Outlier, OneWayRoute, EqualRoute, UnequalRoute, ZeroLimits, ZeroEmissions, HighLimits, IdleLimit, UnusedFuel, IdleTechnology, Rounded}
 use Rattle.data_warnings.specs.Decimals.{decimal_text}
 use Rattle.data_warnings.specs.Frames.{frame_of}
 use Rattle.data_warnings.specs.Limits.{greatest_of}
@@ -123,6 +123,22 @@ route_start sets f = subject_text sets f ++ codes " has no route back"
 unfoldable pub route_line : SetLists → Finding → List ℕ
 route_line sets f = route_start sets f ++ years_text sets f ++ route_remark sets f
 
+-- both ways of a route, as `TradeRoute of R,S,F is 0.9 and back 0.8`
+unfoldable pub both_ways_text : SetLists → Finding → List ℕ
+both_ways_text sets f = number_text sets f ++ codes " and back " ++ decimal_text f.other
+
+-- a route whose two ways differ, and a remark
+unfoldable pub both_ways_line : SetLists → Finding → List ℕ → List ℕ
+both_ways_line sets f remark = both_ways_text sets f ++ years_text sets f ++ remark
+
+-- a parameter, the first of the members that are told together, and how many more, as `DiscountRateIdv for R,T and 3 more`
+unfoldable pub members_text : SetLists → Finding → List ℕ
+members_text sets f = param_word (param_of f.rule) ++ for_first sets f ++ more_members f.more
+
+-- these members, and a remark
+unfoldable pub members_line : SetLists → Finding → List ℕ → List ℕ
+members_line sets f remark = members_text sets f ++ remark
+
 -- a cost below 0
 unfoldable pub loose_line : SetLists → Finding → List ℕ
 loose_line sets f = number_text sets f ++ codes " and no limit holds it" ++ years_text sets f
@@ -209,6 +225,7 @@ said sets f (Crossed pair) = crossed_line sets f (greatest_of pair)
 said sets f CrossedPeriod = crossed_line sets f TOTAL_TECHNOLOGY_MODEL_PERIOD_ACTIVITY_UPPER_LIMIT
 said sets f Unreachable = reach_line sets f
 said sets f ShortLives = default_line sets f (codes ": each is bought anew each year")
+said sets f CoarseRates = members_line sets f (codes ": investments are more than a millionth off; use --places 9")
 said sets f LargeFactor = above_line sets f
 said sets f LargeAvailability = plain_line sets f []
 said sets f LargeTarget = plain_line sets f (codes ": 0.2 is 20 per cent")
@@ -216,6 +233,8 @@ said sets f SmallMargin = plain_line sets f (codes ": 1.15 asks for 15 per cent 
 said sets f (NegativeCost cost) = loose_line sets f
 said sets f (Outlier series) = outlier_line sets f
 said sets f OneWayRoute = route_line sets f
+said sets f EqualRoute = plain_line sets f (codes ": equal both ways, it loses nothing; use a technology")
+said sets f UnequalRoute = both_ways_line sets f (codes ": one way makes energy, the other destroys it; use a technology")
 said sets f (ZeroLimits limit) = default_line sets f (codes ": 0 is a limit, -1 is none")
 said sets f (ZeroEmissions limit) = default_line sets f (codes ": 0 is a limit, -1 is none")
 said sets f (HighLimits ceiling) = subject_line sets f (codes " has values of 99999 and more: -1 is no limit, and quicker")

@@ -1,7 +1,7 @@
 -- The rules after whose findings no plan exists: their lines end in `no plan`.
 use Rattle.std.specs.Prelude.{◌≡◌, ℕ, Bool, true, false, List, ◌++◌, codes}
 use Rattle.data_warnings.specs.declared.rules.Rule.{Rule}
-use Rattle.data_warnings.specs.declared.rules.Rule.TheVariants.{YearSplitSum, YearGap, DiscountRate, UnprofiledDemand, ProfileSum, UnmadeDemand, StarvedTechnology, Disabled, Crossed, CrossedPeriod, Unreachable, ShortLives, LargeFactor, LargeAvailability, LargeTarget, SmallMargin, NegativeCost, Outlier, OneWayRoute, ZeroLimits, ZeroEmissions, HighLimits, IdleLimit, UnusedFuel, IdleTechnology, Rounded}
+use Rattle.data_warnings.specs.declared.rules.Rule.TheVariants.{YearSplitSum, YearGap, DiscountRate, UnprofiledDemand, ProfileSum, UnmadeDemand, StarvedTechnology, Disabled, Crossed, CrossedPeriod, Unreachable, ShortLives, CoarseRates, LargeFactor, LargeAvailability, LargeTarget, SmallMargin, NegativeCost, Outlier, OneWayRoute, EqualRoute, UnequalRoute, ZeroLimits, ZeroEmissions, HighLimits, IdleLimit, UnusedFuel, IdleTechnology, Rounded}
 
 -- what the lines of these rules end in
 abbrev pub no_plan_ending : List ℕ
@@ -26,6 +26,7 @@ excludes_plans (Crossed pair) = true
 excludes_plans CrossedPeriod = true
 excludes_plans Unreachable = true
 excludes_plans ShortLives = false
+excludes_plans CoarseRates = false
 excludes_plans LargeFactor = false
 excludes_plans LargeAvailability = false
 excludes_plans LargeTarget = false
@@ -33,6 +34,8 @@ excludes_plans SmallMargin = false
 excludes_plans (NegativeCost cost) = false
 excludes_plans (Outlier series) = false
 excludes_plans OneWayRoute = false
+excludes_plans EqualRoute = false
+excludes_plans UnequalRoute = false
 excludes_plans (ZeroLimits limit) = false
 excludes_plans (ZeroEmissions limit) = false
 excludes_plans (HighLimits ceiling) = false

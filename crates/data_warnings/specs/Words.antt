@@ -1,6 +1,6 @@
 -- The parameters of which the findings of a rule speak.
 use Rattle.std.specs.Prelude.{ℕ}
-use Rattle.model_sets.specs.declared.param_numbers.TheConstants.{ANNUAL_EMISSION_LIMIT, AVAILABILITY_FACTOR, CAPACITY_FACTOR, CAPACITY_TO_ACTIVITY_UNIT, INPUT_ACTIVITY_RATIO, MODEL_PERIOD_EMISSION_LIMIT, OPERATIONAL_LIFE, OUTPUT_ACTIVITY_RATIO, RESERVE_MARGIN, SPECIFIED_DEMAND_PROFILE, CAPITAL_COST, DISCOUNT_RATE, FIXED_COST, RE_MIN_PRODUCTION_TARGET, TOTAL_TECHNOLOGY_ANNUAL_ACTIVITY_LOWER_LIMIT, TOTAL_TECHNOLOGY_MODEL_PERIOD_ACTIVITY_LOWER_LIMIT, TOTAL_TECHNOLOGY_MODEL_PERIOD_ACTIVITY_UPPER_LIMIT, TRADE_ROUTE, VARIABLE_COST, SPECIFIED_ANNUAL_DEMAND, ACCUMULATED_ANNUAL_DEMAND, RESIDUAL_CAPACITY, YEAR_SPLIT}
+use Rattle.model_sets.specs.declared.param_numbers.TheConstants.{ANNUAL_EMISSION_LIMIT, AVAILABILITY_FACTOR, CAPACITY_FACTOR, CAPACITY_TO_ACTIVITY_UNIT, INPUT_ACTIVITY_RATIO, MODEL_PERIOD_EMISSION_LIMIT, OPERATIONAL_LIFE, OUTPUT_ACTIVITY_RATIO, RESERVE_MARGIN, SPECIFIED_DEMAND_PROFILE, CAPITAL_COST, DISCOUNT_RATE, DISCOUNT_RATE_IDV, FIXED_COST, RE_MIN_PRODUCTION_TARGET, TOTAL_TECHNOLOGY_ANNUAL_ACTIVITY_LOWER_LIMIT, TOTAL_TECHNOLOGY_MODEL_PERIOD_ACTIVITY_LOWER_LIMIT, TOTAL_TECHNOLOGY_MODEL_PERIOD_ACTIVITY_UPPER_LIMIT, TRADE_ROUTE, VARIABLE_COST, SPECIFIED_ANNUAL_DEMAND, ACCUMULATED_ANNUAL_DEMAND, RESIDUAL_CAPACITY, YEAR_SPLIT}
 use Rattle.data_warnings.specs.declared.rules.Ceiling.{Ceiling}
 use Rattle.data_warnings.specs.declared.rules.Ceiling.TheVariants as ceiling
 use Rattle.data_warnings.specs.declared.rules.Cost.{Cost}
@@ -10,7 +10,7 @@ use Rattle.data_warnings.specs.declared.rules.EmissionLimit.TheVariants as emiss
 use Rattle.data_warnings.specs.declared.rules.Enabler.{Enabler}
 use Rattle.data_warnings.specs.declared.rules.Enabler.TheVariants as enabler
 use Rattle.data_warnings.specs.declared.rules.Rule.{Rule}
-use Rattle.data_warnings.specs.declared.rules.Rule.TheVariants.{YearSplitSum, YearGap, DiscountRate, UnprofiledDemand, ProfileSum, UnmadeDemand, StarvedTechnology, Disabled, Crossed, CrossedPeriod, Unreachable, ShortLives, LargeFactor, LargeAvailability, LargeTarget, SmallMargin, NegativeCost, Outlier, OneWayRoute, ZeroLimits, ZeroEmissions, HighLimits, IdleLimit, UnusedFuel, IdleTechnology, Rounded}
+use Rattle.data_warnings.specs.declared.rules.Rule.TheVariants.{YearSplitSum, YearGap, DiscountRate, UnprofiledDemand, ProfileSum, UnmadeDemand, StarvedTechnology, Disabled, Crossed, CrossedPeriod, Unreachable, ShortLives, CoarseRates, LargeFactor, LargeAvailability, LargeTarget, SmallMargin, NegativeCost, Outlier, OneWayRoute, EqualRoute, UnequalRoute, ZeroLimits, ZeroEmissions, HighLimits, IdleLimit, UnusedFuel, IdleTechnology, Rounded}
 use Rattle.data_warnings.specs.declared.rules.Series.{Series}
 use Rattle.data_warnings.specs.declared.rules.Series.TheVariants as series
 use Rattle.data_warnings.specs.Limits.{least_of}
@@ -62,6 +62,7 @@ param_of (Crossed pair) = least_of pair
 param_of CrossedPeriod = TOTAL_TECHNOLOGY_MODEL_PERIOD_ACTIVITY_LOWER_LIMIT
 param_of Unreachable = TOTAL_TECHNOLOGY_ANNUAL_ACTIVITY_LOWER_LIMIT
 param_of ShortLives = OPERATIONAL_LIFE
+param_of CoarseRates = DISCOUNT_RATE_IDV
 param_of LargeFactor = CAPACITY_FACTOR
 param_of LargeAvailability = AVAILABILITY_FACTOR
 param_of LargeTarget = RE_MIN_PRODUCTION_TARGET
@@ -69,6 +70,8 @@ param_of SmallMargin = RESERVE_MARGIN
 param_of (NegativeCost cost) = cost_param cost
 param_of (Outlier series) = series_param series
 param_of OneWayRoute = TRADE_ROUTE
+param_of EqualRoute = TRADE_ROUTE
+param_of UnequalRoute = TRADE_ROUTE
 param_of (ZeroLimits limit) = limit_param limit
 param_of (ZeroEmissions limit) = emission_limit_param limit
 param_of (HighLimits high) = ceiling_param high

@@ -16,7 +16,7 @@ use param_tables::ModelData;
 use std::alloc::{AllocError, Global};
 
 /// The rules in their order.
-const RULES: [Rule; 46] = [
+const RULES: [Rule; 49] = [
     Rule::YearSplitSum,
     Rule::YearGap,
     Rule::DiscountRate,
@@ -34,6 +34,7 @@ const RULES: [Rule; 46] = [
     Rule::CrossedPeriod,
     Rule::Unreachable,
     Rule::ShortLives,
+    Rule::CoarseRates,
     Rule::LargeFactor,
     Rule::LargeAvailability,
     Rule::LargeTarget,
@@ -48,6 +49,8 @@ const RULES: [Rule; 46] = [
     Rule::Outlier(Series::AccumulatedAnnualDemand),
     Rule::Outlier(Series::ResidualCapacity),
     Rule::OneWayRoute,
+    Rule::EqualRoute,
+    Rule::UnequalRoute,
     Rule::ZeroLimits(Limit::Capacity),
     Rule::ZeroLimits(Limit::Investment),
     Rule::ZeroLimits(Limit::Activity),

@@ -3,6 +3,7 @@
 
 mod decimals;
 mod findings;
+mod investments;
 mod laws;
 mod limits;
 mod lines;

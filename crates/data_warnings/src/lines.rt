@@ -3,7 +3,7 @@
 ghost use Rattle.std.specs.Prelude.{◌≡◌, ◌≤◌, ◌++◌, [], IfOk, OnOk};
 ghost use Rattle.model_sets.specs.Names.{set_count, year};
 ghost use Rattle.model_sets.specs.Params.{IsParam};
-ghost use Rattle.data_warnings.specs.Lines.{above_line, asked_start, asked_text, bare_number, beside_text, crossed_line, default_line, default_text, first_names, for_first, gap_line, gap_text, last_line, line, lines_text, loose_line, member_line, more_members, more_text, more_word, more_years, names_text, nearest_text, next_name, number_text, of_names, outlier_line, pair_line, pair_text, plain_line, reach_line, reach_text, rounded_line, route_line, route_remark, route_start, said, starved_line, starved_text, subject_line, subject_text, sum_line, unmade_line, unmade_text, years_text};
+ghost use Rattle.data_warnings.specs.Lines.{above_line, asked_start, asked_text, bare_number, beside_text, both_ways_line, both_ways_text, crossed_line, default_line, default_text, first_names, for_first, gap_line, gap_text, last_line, line, lines_text, loose_line, member_line, members_line, members_text, more_members, more_text, more_word, more_years, names_text, nearest_text, next_name, number_text, of_names, outlier_line, pair_line, pair_text, plain_line, reach_line, reach_text, rounded_line, route_line, route_remark, route_start, said, starved_line, starved_text, subject_line, subject_text, sum_line, unmade_line, unmade_text, years_text};
 ghost use Rattle.std.specs.Fmt.{decimal};
 ghost use Rattle.std.specs.List.{flat_map};
 
@@ -99,6 +99,12 @@ fn push_said(out: &mut Vec<u8>, sets: &Sets, f: Finding) -> Result<(), AllocErro
         ),
         Rule::Unreachable => push_reach_line(out, sets, f),
         Rule::ShortLives => push_default(out, sets, f, b": each is bought anew each year"),
+        Rule::CoarseRates => push_members_line(
+            out,
+            sets,
+            f,
+            b": investments are more than a millionth off; use --places 9",
+        ),
         Rule::LargeFactor => push_above(out, sets, f),
         Rule::LargeAvailability => push_plain(out, sets, f, b""),
         Rule::LargeTarget => push_plain(out, sets, f, b": 0.2 is 20 per cent"),
@@ -111,6 +117,18 @@ fn push_said(out: &mut Vec<u8>, sets: &Sets, f: Finding) -> Result<(), AllocErro
         Rule::NegativeCost(_) => push_loose(out, sets, f),
         Rule::Outlier(_) => push_outlier(out, sets, f),
         Rule::OneWayRoute => push_route(out, sets, f),
+        Rule::EqualRoute => push_plain(
+            out,
+            sets,
+            f,
+            b": equal both ways, it loses nothing; use a technology",
+        ),
+        Rule::UnequalRoute => push_both_ways_line(
+            out,
+            sets,
+            f,
+            b": one way makes energy, the other destroys it; use a technology",
+        ),
         Rule::ZeroLimits(_) | Rule::ZeroEmissions(_) => {
             push_default(out, sets, f, b": 0 is a limit, -1 is none")
         }
@@ -283,6 +301,31 @@ fn push_route_remark(out: &mut Vec<u8>, sets: &Sets, f: Finding) -> Result<(), A
     out.extend_from_slice(b" gets, ")?;
     out.extend_from_slice(name_of(sets, frame_of(f.rule).second, f.place.second))?;
     out.extend_from_slice(b" doesn't lose")
+}
+
+// Appends a route whose two ways differ, and a remark.
+#[tactic(auto, unfolding(crate::specs::Lines::both_ways_line))]
+fn push_both_ways_line(
+    out: &mut Vec<u8>,
+    sets: &Sets,
+    f: Finding,
+    remark: &[u8],
+) -> Result<(), AllocError>
+    ensures { OnOk result (out.new.items ≡ out.old.items ++ both_ways_line sets.now f remark.now) }
+{
+    push_both_ways(out, sets, f)?;
+    push_years(out, sets, f)?;
+    out.extend_from_slice(remark)
+}
+
+// Appends both ways of a route.
+#[tactic(auto, unfolding(crate::specs::Lines::both_ways_text))]
+fn push_both_ways(out: &mut Vec<u8>, sets: &Sets, f: Finding) -> Result<(), AllocError>
+    ensures { OnOk result (out.new.items ≡ out.old.items ++ both_ways_text sets.now f) }
+{
+    push_number(out, sets, f)?;
+    out.extend_from_slice(b" and back ")?;
+    push_decimal(out, f.other)
 }
 
 // Appends how many numbers were rounded.
@@ -493,6 +536,30 @@ fn push_above(out: &mut Vec<u8>, sets: &Sets, f: Finding) -> Result<(), AllocErr
     push_subject(out, sets, f)?;
     out.extend_from_slice(b" is above 1")?;
     push_years(out, sets, f)
+}
+
+// Appends a parameter, and the first of the members that are told together.
+#[tactic(auto, unfolding(crate::specs::Lines::members_text))]
+fn push_members(out: &mut Vec<u8>, sets: &Sets, f: Finding) -> Result<(), AllocError>
+    ensures { OnOk result (out.new.items ≡ out.old.items ++ members_text sets.now f) }
+{
+    out.extend_from_slice(param_word(param_of(f.rule)).as_bytes())?;
+    push_for_first(out, sets, f)?;
+    push_more_members(out, f.more)
+}
+
+// Appends these members, and a remark.
+#[tactic(auto, unfolding(crate::specs::Lines::members_line))]
+fn push_members_line(
+    out: &mut Vec<u8>,
+    sets: &Sets,
+    f: Finding,
+    remark: &[u8],
+) -> Result<(), AllocError>
+    ensures { OnOk result (out.new.items ≡ out.old.items ++ members_line sets.now f remark.now) }
+{
+    push_members(out, sets, f)?;
+    out.extend_from_slice(remark)
 }
 
 // Appends a parameter, and a remark.

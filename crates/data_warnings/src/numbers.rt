@@ -11,7 +11,7 @@ use crate::neighbours::{nearest, series_value};
 use crate::places::Place;
 use crate::reach::{greatest_capacity, least_activity};
 use crate::rules::Rule;
-use crate::shares::{availability, discount_rate, target};
+use crate::shares::{availability, discount_rate, route, target};
 use crate::sums::{Parts, sum_of};
 use crate::uses::margin;
 use crate::values::{value, year_number};
@@ -43,6 +43,9 @@ pub(crate) fn number(model: &ModelData, rule: Rule, p: Place) -> i128
         Rule::SmallMargin => margin(model, p.first, p.last),
         Rule::NegativeCost(cost) => cost_value(model, cost, p.first, p.second, p.third, p.last),
         Rule::Outlier(series) => series_value(model, series, p.first, p.second, p.third, p.last),
+        Rule::EqualRoute | Rule::UnequalRoute => {
+            route(model, p.first, p.second, p.third, p.last)
+        }
         Rule::Rounded => BILLION * i128::from(model.rounded()),
         _ => 0,
     }
@@ -66,6 +69,7 @@ pub(crate) fn other_number(model: &ModelData, rule: Rule, p: Place) -> i128
             p.third,
             nearest(p.last),
         ),
+        Rule::UnequalRoute => route(model, p.second, p.first, p.third, p.last),
         _ => 0,
     }
 }

@@ -110,6 +110,8 @@ pub enum Rule {
     Unreachable,
     /// There are several years, and a technology that has a capital cost lives one, by default.
     ShortLives,
+    /// Factors of nine decimal places tell the cost of an investment that is spread over its life otherwise.
+    CoarseRates,
     /// CapacityFactor is above 1 in some timeslice.
     LargeFactor,
     /// AvailabilityFactor is above 1.
@@ -124,6 +126,10 @@ pub enum Rule {
     Outlier(Series),
     /// A route leads one way.
     OneWayRoute,
+    /// A route is the same both ways, and not 1.
+    EqualRoute,
+    /// The two ways of a route differ.
+    UnequalRoute,
     /// A limit of a technology is 0 in some year, by default.
     ZeroLimits(Limit),
     /// A limit of an emission is 0, by default.
@@ -208,8 +214,12 @@ pub(crate) fn frame_of(rule: Rule) -> Frame
         Rule::LargeTarget | Rule::SmallMargin => framed(REGION, NO_SET, NO_SET, YEAR),
         Rule::NegativeCost(cost) => cost_frame(cost),
         Rule::Outlier(series) => series_frame(series),
-        Rule::OneWayRoute => framed(REGION, REGION, FUEL, YEAR),
-        Rule::ShortLives | Rule::ZeroLimits(_) => framed(REGION, NO_SET, NO_SET, TECHNOLOGY),
+        Rule::OneWayRoute | Rule::EqualRoute | Rule::UnequalRoute => {
+            framed(REGION, REGION, FUEL, YEAR)
+        }
+        Rule::ShortLives | Rule::CoarseRates | Rule::ZeroLimits(_) => {
+            framed(REGION, NO_SET, NO_SET, TECHNOLOGY)
+        }
         Rule::ZeroEmissions(_) => framed(REGION, NO_SET, NO_SET, EMISSION),
         Rule::HighLimits(_) => framed(REGION, NO_SET, NO_SET, NO_SET),
         Rule::IdleLimit => framed(REGION, EMISSION, NO_SET, NO_SET),

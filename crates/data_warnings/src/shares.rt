@@ -1,7 +1,7 @@
 //! Rates and shares that look like per cent, and routes that lead one way.
 
 ghost use Rattle.std.specs.Prelude.{◌≡◌};
-ghost use Rattle.data_warnings.specs.Shares.{availability, discount_rate, is_above_one, is_odd_rate, leads_one_way, route, target};
+ghost use Rattle.data_warnings.specs.Shares.{availability, discount_rate, is_above_one, is_equal_route, is_odd_rate, is_unequal_route, leads_both_ways, leads_one_way, route, target};
 ghost use Rattle.named_equations.specs.Within.{IsFuel, IsRegion, IsTechnology, IsYear};
 
 use crate::values::value;
@@ -71,4 +71,40 @@ pub(crate) fn leads_one_way(model: &ModelData, r: u16, rr: u16, f: u16, y: u16) 
     ensures { result ≡ leads_one_way model.now.facts r rr f y }
 {
     r != rr && 0 < route(model, r, rr, f, y) && !(0 < route(model, rr, r, f, y))
+}
+
+// Whether two regions get the fuel of each other. A pair of regions is looked at once, in their order.
+fn leads_both_ways(model: &ModelData, r: u16, rr: u16, f: u16, y: u16) -> bool
+    requires region { IsRegion model.now.facts r }
+    requires other { IsRegion model.now.facts rr }
+    requires fuel { IsFuel model.now.facts f }
+    requires year { IsYear model.now.facts y }
+    ensures { result ≡ leads_both_ways model.now.facts r rr f y }
+{
+    r < rr && 0 < route(model, r, rr, f, y) && 0 < route(model, rr, r, f, y)
+}
+
+/// Whether the route between two regions is the same both ways, and not 1.
+pub(crate) fn is_equal_route(model: &ModelData, r: u16, rr: u16, f: u16, y: u16) -> bool
+    requires region { IsRegion model.now.facts r }
+    requires other { IsRegion model.now.facts rr }
+    requires fuel { IsFuel model.now.facts f }
+    requires year { IsYear model.now.facts y }
+    ensures { result ≡ is_equal_route model.now.facts r rr f y }
+{
+    let there = route(model, r, rr, f, y);
+    leads_both_ways(model, r, rr, f, y)
+        && there == route(model, rr, r, f, y)
+        && there != 1_000_000_000
+}
+
+/// Whether the two ways of the route between two regions differ.
+pub(crate) fn is_unequal_route(model: &ModelData, r: u16, rr: u16, f: u16, y: u16) -> bool
+    requires region { IsRegion model.now.facts r }
+    requires other { IsRegion model.now.facts rr }
+    requires fuel { IsFuel model.now.facts f }
+    requires year { IsYear model.now.facts y }
+    ensures { result ≡ is_unequal_route model.now.facts r rr f y }
+{
+    leads_both_ways(model, r, rr, f, y) && route(model, r, rr, f, y) != route(model, rr, r, f, y)
 }

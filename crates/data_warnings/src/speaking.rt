@@ -5,6 +5,7 @@ ghost use Rattle.data_warnings.specs.Frames.{frame_of};
 ghost use Rattle.data_warnings.specs.Speaking.{speaks};
 ghost use Rattle.data_warnings.specs.Values.{IsPlace};
 
+use crate::investments::is_coarse;
 use crate::limits::{is_crossed, is_crossed_period, is_loose};
 use crate::makers::{is_starved, is_unmade, is_unprofiled};
 use crate::neighbours::is_outlier;
@@ -13,7 +14,8 @@ use crate::questions::{Question, is_so_somewhere};
 use crate::reach::is_unreachable;
 use crate::rules::Rule;
 use crate::shares::{
-    availability, discount_rate, is_above_one, is_odd_rate, leads_one_way, target,
+    availability, discount_rate, is_above_one, is_equal_route, is_odd_rate, is_unequal_route,
+    leads_one_way, target,
 };
 use crate::sums::{Parts, is_misprofiled, is_off, sum_of};
 use crate::uses::{
@@ -47,6 +49,7 @@ pub(crate) fn speaks(
         Rule::CrossedPeriod => Ok(is_crossed_period(model, p.first, p.second)),
         Rule::Unreachable => Ok(is_unreachable(model, p.first, p.second, p.last)),
         Rule::ShortLives => is_short_lived(alloc, model, p.first, p.last),
+        Rule::CoarseRates => is_coarse(alloc, model, p.first, p.last),
         Rule::LargeFactor => Ok(is_so_somewhere(
             model,
             Question::LargeFactor(p.first, p.second, p.last),
@@ -63,6 +66,8 @@ pub(crate) fn speaks(
             Ok(is_outlier(model, series, p.first, p.second, p.third, p.last))
         }
         Rule::OneWayRoute => Ok(leads_one_way(model, p.first, p.second, p.third, p.last)),
+        Rule::EqualRoute => Ok(is_equal_route(model, p.first, p.second, p.third, p.last)),
+        Rule::UnequalRoute => { Ok(is_unequal_route(model, p.first, p.second, p.third, p.last)) }
         Rule::ZeroLimits(limit) => has_zero_limit(alloc, model, limit, p.first, p.last),
         Rule::ZeroEmissions(limit) => has_zero_emissions(alloc, model, limit, p.first, p.last),
         Rule::HighLimits(ceiling) => is_for_none(alloc, model, ceiling, p.first),

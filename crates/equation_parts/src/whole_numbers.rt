@@ -1,6 +1,6 @@
 //! The parameters that are whole numbers, and rates as whole numbers of billionths.
 
-ghost use Rattle.std.specs.Prelude.{◌≡◌, ◌<◌, ◌≤ℤ◌, nat_lt, pos, true, unsigned_abs, unwrap_or};
+ghost use Rattle.std.specs.Prelude.{◌≡◌, ◌<◌, ◌≤◌, ◌≤ℤ◌, nat_lt, pos, true, unsigned_abs, unwrap_or};
 ghost use Rattle.model_sets.specs.Data.{IsUsedParam, value_at};
 ghost use Rattle.model_sets.specs.Params.{range_of};
 ghost use Rattle.model_sets.specs.declared.params.Range.TheVariants.{ZeroToOne};
@@ -22,6 +22,7 @@ pub fn operational_life(model: &ModelData, r: u16, t: u16) -> u16
     requires technology { IsTechnology model.now.facts t }
     ensures exact { result ≡ life_of model.now.facts r t }
     ensures some { 0 < result }
+    ensures most { result ≤ 200 }
 {
     model.at(OPERATIONAL_LIFE, &[r, t]).num as u16
 }

@@ -84,7 +84,7 @@ DueForMethod places d rows wanted status text = HasFeasible places d rows wanted
 
 -- of rows: what guesses find, or what is due by the size
 abbrev pub DueForRows : ℕ → Data → List Row → Wanted → Status → List ℕ → Type 0
-DueForRows places d rows wanted status text = DueBySize (Finds wanted.method places d rows wanted) (DueForMethod places d rows wanted) rows (all_variables d) status text
+DueForRows places d rows wanted status text = DueBySize wanted.method wanted.pivots (Finds wanted.method places d rows wanted) (DueForMethod places d rows wanted) rows (all_variables d) status text
 
 -- What is due over these data, for so many pivots at most in each trial, and the method that is asked for.
 abbrev pub DueForExplain : ℕ → Wanted → Data → Status → List ℕ → Type 0

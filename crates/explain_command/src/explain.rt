@@ -63,13 +63,13 @@ fn answer_book(
     ensures { (places : ℕ) (d : Data) → sets.now ≡ d.sets → IsBookOf places d book.now.rows book.now.vars
         → IfOk result (λ answer. DueForRows places d book.now.rows wanted answer.status answer.text.items) }
 {
-    match refuse_large(alloc, book)? {
+    match refuse_large(alloc, book, wanted.method, u64::from(wanted.pivots))? {
         Some(refusal) => answer_large(alloc, book, sets, wanted, refusal, watcher),
         None => answer_method(alloc, book, sets, wanted, watcher),
     }
 }
 
-// What is due over a book whose linear program is too large: with the rounded method what guesses alone find, and else that it is refused so.
+// What is due over a book whose linear program is too large: with the rounded method what guesses alone find, and else this answer.
 fn answer_large(
     alloc: Global,
     book: &RowBook,
@@ -79,7 +79,7 @@ fn answer_large(
     watcher: &mut dyn Watcher,
 ) -> Result<Answer, AllocError>
     requires listed { IsListedBook sets.now book.now.rows book.now.vars }
-    requires large { PassesLimits book.now.rows book.now.vars refusal.status refusal.text.items }
+    requires large { PassesLimits wanted.method wanted.pivots book.now.rows book.now.vars refusal.status refusal.text.items }
     ensures { (places : ℕ) (d : Data) → sets.now ≡ d.sets → IsBookOf places d book.now.rows book.now.vars
         → IfOk result (λ answer. DueForRows places d book.now.rows wanted answer.status answer.text.items) }
 {

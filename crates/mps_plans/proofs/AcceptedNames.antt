@@ -1,5 +1,6 @@
 -- No name in the sets of accepted data has a line feed: a bare symbol has none, and nor has what stands between two quotes.
-use Rattle.mps_plans.proofs.Common.{◌≡◌, ℕ, Bool, true, false, ◌&&◌, not, cond, List, [], ◌∷◌, ◌++◌, length, map, Option, Some, None, refl, ap, sym, subst, inl, inr, eqb-true, nat_lt, nat_eq, ◌==◌, AllByRecursion, find, flat_map, list_all, range_with_len, option_map_or, all_ascii_digits, Data, Blocks, Means, IsLoose, Opening, SetBlock, blocks_of, set_blocks, Says, members_told, set_lists, Accepted, ends_line, is_one_line, HaveOneLineNames}
+use Rattle.mps_plans.proofs.Common.{◌≡◌, ℕ, Bool, true, false, ◌&&◌, not, cond, List, [], ◌∷◌, ◌++◌, length, map, Option, Some, None, refl, ap, sym, subst, inl, inr, eqb-true, nat_lt, nat_eq, ◌==◌, AllByRecursion, find, flat_map, list_all, range_with_len, option_map_or, all_ascii_digits, Data, Blocks, Means, IsLoose, Opening, SetBlock, blocks_of, set_blocks, Says, members_told, set_lists, Accepted, Source, ends_line, is_one_line, HaveOneLineNames}
+use Rattle.command_answers.proofs.AcceptedData.{accepted-sets}
 use Rattle.model_sets.specs.Params.{subscript_count}
 use Rattle.mathprog_data.specs.Characters.{zero_digit}
 use Rattle.mathprog_data.specs.Lexemes.{Placed, Bare, Quoted, bare_name, without_leading_zeros}
@@ -222,5 +223,5 @@ says-lines text blocks says =
     let own = loose-lines says.placed says.means.statements says.means.loose (tokens-name text says.placed says.tokens) in
     subst (λ bs. HaveOneLineNames (set_lists bs)) (sym says.means.blocks_are) (lists-lines (flat_map set_blocks says.means.statements) (range_with_len 1 11) (blocks-lines says.means.statements own))
 
-pub accepted-names : (text : List ℕ) (d : Data) → Accepted text d → HaveOneLineNames d.sets
-accepted-names text d accepted = subst (λ e. HaveOneLineNames e.sets) (sym accepted.told) (says-lines text accepted.blocks accepted.says)
+pub accepted-names : (source : Source) (d : Data) → Accepted source d → HaveOneLineNames d.sets
+accepted-names source d accepted = subst HaveOneLineNames (sym (accepted-sets source d accepted)) (says-lines source.text accepted.says.blocks accepted.says.says)

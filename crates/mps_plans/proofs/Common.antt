@@ -1,6 +1,6 @@
 -- The names that most proofs here cite, passed on from one place. Declares nothing.
 pub use Rattle.certificate_checker.specs.Plans.{AllStand, HaveRightSigns, IsRight, MeetsAll}
-pub use Rattle.command_answers.specs.Accepted.{Accepted}
+pub use Rattle.command_answers.specs.Accepted.{Accepted, Source}
 pub use Rattle.mathprog_data.specs.Meaning.{Blocks, IsLoose, Means, Opening, SetBlock, blocks_of, set_blocks}
 pub use Rattle.mathprog_data.specs.Verdicts.{Says}
 pub use Rattle.model_sets.specs.Data.{Data}

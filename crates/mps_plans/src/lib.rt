@@ -4,7 +4,7 @@
 
 ghost use Rattle.std.specs.Prelude.{◌≡◌, ℕ, List, Some};
 ghost use Rattle.model_sets.specs.Data.{Data};
-ghost use Rattle.command_answers.specs.Accepted.{Accepted};
+ghost use Rattle.command_answers.specs.Accepted.{Accepted, Source};
 ghost use Rattle.named_equations.specs.Instances.{instances};
 ghost use Rattle.row_core.specs.RowLists.{AreVariablesOf};
 ghost use Rattle.row_book.specs.Books.{AreRowsOf};
@@ -17,8 +17,8 @@ ghost use Rattle.mps_writer.specs.MpsText.{mps_text};
 
 /// Over accepted data the text of a row for each instance, with the variables of the rows as its columns, reads as a program of the plans.
 pub fn plans_law()
-    ensures means { (places : ℕ) (file : List ℕ) (d : Data) (rows : List Row) (columns : List Var) →
-        Accepted file d → AreRowsOf places d (instances d) rows → AreVariablesOf rows columns →
+    ensures means { (places : ℕ) (source : Source) (d : Data) (rows : List Row) (columns : List Var) →
+        Accepted source d → AreRowsOf places d (instances d) rows → AreVariablesOf rows columns →
         (program : Program)
         × (program_of (mps_text d.sets rows columns) ≡ Some program)
         × IsProgramOf places d program }

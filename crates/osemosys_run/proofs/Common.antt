@@ -5,7 +5,7 @@ pub use Rattle.check_command.proofs.Common.{AllByRecursion, AllPass, AreFeasible
 pub use Rattle.check_command.specs.AcceptedProofs.{TellsProof}
 pub use Rattle.check_command.specs.Check.{DueForCheck, DueForPlanFile, IsRejected, TellsMultipliers}
 pub use Rattle.check_command.specs.CheckProof.{DueForProof}
-pub use Rattle.command_answers.specs.Accepted.{Accepted, most_bytes}
+pub use Rattle.command_answers.specs.Accepted.{Accepted, Source, most_bytes, plain, source_of}
 pub use Rattle.command_answers.specs.BookFails.{TellsFail}
 pub use Rattle.command_answers.specs.DueForText.{DueForText}
 pub use Rattle.command_answers.specs.Lines.{too_long_line}
@@ -14,9 +14,9 @@ pub use Rattle.command_answers.specs.NotAccepted.{DueWhereNotAccepted}
 pub use Rattle.command_answers.specs.ShownProofs.{DueForShown, DueOverRows}
 pub use Rattle.command_answers.specs.declared.answer.Answer.{Answer}
 pub use Rattle.command_answers.specs.declared.status.Refusal.TheVariants.{StartFile}
-pub use Rattle.command_answers.specs.declared.status.Status.TheVariants.{Infeasible, Memory, ReadFault, Rejected, Unbounded, Words, WriteFault}
-pub use Rattle.command_words.specs.Commands.{request_of, request_of_result}
-pub use Rattle.command_words.specs.Words.{Check, CheckProof, Compare, Curve, Explain, Make, Mps, Page, Reduce, Request, Solve, SolveFrom, Span, Table, Warn, asked, names_of}
+pub use Rattle.command_answers.specs.declared.status.Status.TheVariants.{Infeasible, Memory, ReadFault, Rejected, Unbounded, Unguessed, Words, WriteFault}
+pub use Rattle.command_words.specs.Commands.{question_of, request_of, request_of_result}
+pub use Rattle.command_words.specs.Words.{Check, CheckProof, Compare, Curve, Explain, Make, Mps, Page, Question, Reduce, Request, Solve, SolveFrom, Span, Table, Warn, asked, names_in, names_of}
 pub use Rattle.command_words.specs.declared.command.Command.{Command}
 pub use Rattle.command_words.specs.declared.command.CompareShow.{CompareShow}
 pub use Rattle.command_words.specs.declared.command.MakeShow.{MakeShow}
@@ -39,11 +39,11 @@ pub use Rattle.mps_writer.specs.MpsText.{IsNamedRow, IsNamedVariable, line, rows
 pub use Rattle.osemosys_run.specs.Causes.{Caused, CausedByRequest, IsAnswered, IsReplyFor, IsStopped, TellsEnd}
 pub use Rattle.osemosys_run.specs.Compared.{CheckedBy, DueForCompared, HasLines, IsPromisedDifference}
 pub use Rattle.osemosys_run.specs.Complete.{AreInGap, AreThere, CanBeAccepted, CanBeDone, CanBeDrawn, CanBeExplained, CanBeSolved, CanBeSpanned, CanBeTried, CanBeWritten, Completes, IsEndOf, IsEnded, IsExplained, NothingStopsSpan, ProvesOptimum}
-pub use Rattle.osemosys_run.specs.Due.{AskForEquations, Due, DueForFile, DueForFiles, DueForMake, DueForRequest, DueOver, DueOverAsked, DueOverData, bytes_at, names_asked}
+pub use Rattle.osemosys_run.specs.Due.{AskForEquations, Due, DueForFile, DueForFiles, DueForMake, DueForQuestion, DueForRequest, DueOver, DueOverAsked, DueOverData, bytes_at, changes_at, names_asked, source2_in, source_in, titled}
 pub use Rattle.osemosys_run.specs.Mps.{DueForEquations}
 pub use Rattle.osemosys_run.specs.ReadToEnd.{HasReadAll, IsReadAtWriteFault, IsReadToEnd, ReadsWhole, SpeaksOfFiles}
-pub use Rattle.osemosys_run.specs.Replies.{CanBeSent, CanBeTold, DueForReply, IsAsMade, IsForEquations, IsOwn, IsReplyTo, IsTold}
-pub use Rattle.osemosys_run.specs.Requests.{HasOneModel, IsInRange, IsOfOneModel, IsRead, first_marked, marks_for}
+pub use Rattle.osemosys_run.specs.Replies.{CanBeSent, CanBeTold, DueForReply, IsForEquationsOf, IsAsMade, IsForEquations, IsOwn, IsReplyTo, IsTold}
+pub use Rattle.osemosys_run.specs.Requests.{HasOneModel, IsOfOneModel, IsRead, first_marked, marks_for, marks_in}
 pub use Rattle.osemosys_run.specs.Scenarios.{AcceptsOver, IsKept, IsUnkept, RefusesOver}
 pub use Rattle.osemosys_run.specs.Sending.{Delivers, IsBegun, Sent, sent}
 pub use Rattle.osemosys_run.specs.declared.reply.Reply.{Reply}

@@ -1,5 +1,5 @@
 -- Where `compare` ends with status 0, `check` accepts two optima, so the costs of its text are those of plans, and its bounds hold of all plans.
-use Rattle.osemosys_run.proofs.Common.{◌≡◌, ℕ, ℤ, pos, neg_ℤ, ◌<ℤ◌, ◌++◌, inl, inr, List, Some, refl, sym, ◌∙◌, subst, append_assoc, codes, flat_map, Rational, Data, Row, RowName, Var, all_variables, instances, records_of, Proof, Optimum, Refutation, Descent, IsProof, Done, AreFeasible, BoundsFeasible, DueForPlan, multiplier_bound, plan_cost, DueForProofFile, DueForProofTold, ProofLaws, CompareShow, IsJudged, ComparesProofs, IsComparison, Judged, Shows, Written, CheckedBy, DueForCompared, HasLines, IsPromisedDifference}
+use Rattle.osemosys_run.proofs.Common.{Source, ◌≡◌, ℕ, ℤ, pos, neg_ℤ, ◌<ℤ◌, ◌++◌, inl, inr, List, Some, refl, sym, ◌∙◌, subst, append_assoc, codes, flat_map, Rational, Data, Row, RowName, Var, all_variables, instances, records_of, Proof, Optimum, Refutation, Descent, IsProof, Done, AreFeasible, BoundsFeasible, DueForPlan, multiplier_bound, plan_cost, DueForProofFile, DueForProofTold, ProofLaws, CompareShow, IsJudged, ComparesProofs, IsComparison, Judged, Shows, Written, CheckedBy, DueForCompared, HasLines, IsPromisedDifference}
 use Rattle.exact_num.specs.Value.{value_of}
 use Rattle.compare_command.specs.Compared.{part_of}
 use Rattle.result_pages.specs.Pages.{Part}
@@ -61,9 +61,9 @@ module _ (laws : ProofLaws) (costs : CostLaws) (written : Written) (gap : ℕ) w
   worth-of_due d rows plan multipliers said (inr (inl rejected)) = absurd (cc rejected.status_is)
   worth-of_due d rows plan multipliers said (inr (inr wide)) = absurd (cc wide.status_is)
 
-  worth-of : (bytes proof_bytes : List ℕ) (one : Judged) (plan : List (Var × Rational)) (multipliers : List (RowName × Rational)) → one.proof ≡ Optimum plan multipliers
-      → IsJudged places (CheckedBy places gap proof_bytes) bytes proof_bytes one → Worth one.data_of one.rows plan multipliers
-  worth-of bytes proof_bytes one plan multipliers is judged =
+  worth-of : (source : Source) (proof_bytes : List ℕ) (one : Judged) (plan : List (Var × Rational)) (multipliers : List (RowName × Rational)) → one.proof ≡ Optimum plan multipliers
+      → IsJudged places (CheckedBy places gap proof_bytes) source proof_bytes one → Worth one.data_of one.rows plan multipliers
+  worth-of source proof_bytes one plan multipliers is judged =
       let told = subst (IsProof one.data_of.sets (all_variables one.data_of) (instances one.data_of) (records_of proof_bytes)) is judged.told in
       worth-of_due one.data_of one.rows plan multipliers one.said (told-so one.data_of one.rows proof_bytes (Optimum plan multipliers) one.said told judged.checked)
 
@@ -75,13 +75,13 @@ module _ (laws : ProofLaws) (costs : CostLaws) (written : Written) (gap : ℕ) w
   lines-of Page part part2 first second text same = (part, part2, same)
 
   -- of two optima
-  of-comparison : (bytes proof_bytes bytes2 proof_bytes2 text : List ℕ) (one two : Judged) (plan : List (Var × Rational)) (multipliers : List (RowName × Rational)) (plan2 : List (Var × Rational)) (multipliers2 : List (RowName × Rational))
+  of-comparison : (source : Source) (proof_bytes : List ℕ) (source2 : Source) (proof_bytes2 text : List ℕ) (one two : Judged) (plan : List (Var × Rational)) (multipliers : List (RowName × Rational)) (plan2 : List (Var × Rational)) (multipliers2 : List (RowName × Rational))
       → one.proof ≡ Optimum plan multipliers → two.proof ≡ Optimum plan2 multipliers2
-      → IsJudged places (CheckedBy places gap proof_bytes) bytes proof_bytes one → IsJudged places (CheckedBy places gap proof_bytes2) bytes2 proof_bytes2 two
-      → IsComparison written one two plan multipliers plan2 multipliers2 Done text → IsPromisedDifference written bytes bytes2 text
-  of-comparison bytes proof_bytes bytes2 proof_bytes2 text one two plan multipliers plan2 multipliers2 is is2 judged judged2 compares =
-      let worth = worth-of bytes proof_bytes one plan multipliers is judged in
-      let worth2 = worth-of bytes2 proof_bytes2 two plan2 multipliers2 is2 judged2 in
+      → IsJudged places (CheckedBy places gap proof_bytes) source proof_bytes one → IsJudged places (CheckedBy places gap proof_bytes2) source2 proof_bytes2 two
+      → IsComparison written one two plan multipliers plan2 multipliers2 Done text → IsPromisedDifference written source source2 text
+  of-comparison source proof_bytes source2 proof_bytes2 text one two plan multipliers plan2 multipliers2 is is2 judged judged2 compares =
+      let worth = worth-of source proof_bytes one plan multipliers is judged in
+      let worth2 = worth-of source2 proof_bytes2 two plan2 multipliers2 is2 judged2 in
       let first = compares.first in
       let second = compares.second in
       let cost : IsCost places one.data_of (value_of first.cost) = subst (IsCost places one.data_of) (sym compares.is_first.cost_is) (is-cost places one.data_of plan (plan_cost one.data_of plan) worth.0) in
@@ -99,7 +99,7 @@ module _ (laws : ProofLaws) (costs : CostLaws) (written : Written) (gap : ℕ) w
         bound = value_of first.bound;
         cost2 = value_of second.cost;
         bound2 = value_of second.bound;
-        has_lines = lines-of written.show (part_of places written.name one) (part_of places written.name2 two) first second text compares.shows;
+        has_lines = lines-of written.show (part_of places written.title one) (part_of places written.title2 two) first second text compares.shows;
         is_cost = cost;
         is_bound = bound;
         is_cost2 = cost2;
@@ -110,23 +110,23 @@ module _ (laws : ProofLaws) (costs : CostLaws) (written : Written) (gap : ℕ) w
         most = λ least least2 z h k at. costs.most places places one.data_of two.data_of (value_of first.bound) (value_of second.cost) least least2 z bound cost2 h k at;
       }
 
-  of-proofs : (bytes proof_bytes bytes2 proof_bytes2 text : List ℕ) (one two : Judged) (proof proof2 : Proof) → one.proof ≡ proof → two.proof ≡ proof2
-      → IsJudged places (CheckedBy places gap proof_bytes) bytes proof_bytes one → IsJudged places (CheckedBy places gap proof_bytes2) bytes2 proof_bytes2 two
-      → ComparesProofs written proof proof2 one two Done text → IsPromisedDifference written bytes bytes2 text
-  of-proofs bytes proof_bytes bytes2 proof_bytes2 text one two (Optimum plan multipliers) (Optimum plan2 multipliers2) is is2 judged judged2 compares =
-      of-comparison bytes proof_bytes bytes2 proof_bytes2 text one two plan multipliers plan2 multipliers2 is is2 judged judged2 compares
-  of-proofs bytes proof_bytes bytes2 proof_bytes2 text one two (Optimum plan multipliers) (Refutation multipliers2) is is2 judged judged2 compares = absurd (cc compares.0)
-  of-proofs bytes proof_bytes bytes2 proof_bytes2 text one two (Optimum plan multipliers) (Descent plan2 direction2) is is2 judged judged2 compares = absurd (cc compares.0)
-  of-proofs bytes proof_bytes bytes2 proof_bytes2 text one two (Refutation multipliers) (Optimum plan2 multipliers2) is is2 judged judged2 compares = absurd (cc compares.0)
-  of-proofs bytes proof_bytes bytes2 proof_bytes2 text one two (Refutation multipliers) (Refutation multipliers2) is is2 judged judged2 compares = absurd (cc compares.0)
-  of-proofs bytes proof_bytes bytes2 proof_bytes2 text one two (Refutation multipliers) (Descent plan2 direction2) is is2 judged judged2 compares = absurd (cc compares.0)
-  of-proofs bytes proof_bytes bytes2 proof_bytes2 text one two (Descent plan direction) (Optimum plan2 multipliers2) is is2 judged judged2 compares = absurd (cc compares.0)
-  of-proofs bytes proof_bytes bytes2 proof_bytes2 text one two (Descent plan direction) (Refutation multipliers2) is is2 judged judged2 compares = absurd (cc compares.0)
-  of-proofs bytes proof_bytes bytes2 proof_bytes2 text one two (Descent plan direction) (Descent plan2 direction2) is is2 judged judged2 compares = absurd (cc compares.0)
+  of-proofs : (source : Source) (proof_bytes : List ℕ) (source2 : Source) (proof_bytes2 text : List ℕ) (one two : Judged) (proof proof2 : Proof) → one.proof ≡ proof → two.proof ≡ proof2
+      → IsJudged places (CheckedBy places gap proof_bytes) source proof_bytes one → IsJudged places (CheckedBy places gap proof_bytes2) source2 proof_bytes2 two
+      → ComparesProofs written proof proof2 one two Done text → IsPromisedDifference written source source2 text
+  of-proofs source proof_bytes source2 proof_bytes2 text one two (Optimum plan multipliers) (Optimum plan2 multipliers2) is is2 judged judged2 compares =
+      of-comparison source proof_bytes source2 proof_bytes2 text one two plan multipliers plan2 multipliers2 is is2 judged judged2 compares
+  of-proofs source proof_bytes source2 proof_bytes2 text one two (Optimum plan multipliers) (Refutation multipliers2) is is2 judged judged2 compares = absurd (cc compares.0)
+  of-proofs source proof_bytes source2 proof_bytes2 text one two (Optimum plan multipliers) (Descent plan2 direction2) is is2 judged judged2 compares = absurd (cc compares.0)
+  of-proofs source proof_bytes source2 proof_bytes2 text one two (Refutation multipliers) (Optimum plan2 multipliers2) is is2 judged judged2 compares = absurd (cc compares.0)
+  of-proofs source proof_bytes source2 proof_bytes2 text one two (Refutation multipliers) (Refutation multipliers2) is is2 judged judged2 compares = absurd (cc compares.0)
+  of-proofs source proof_bytes source2 proof_bytes2 text one two (Refutation multipliers) (Descent plan2 direction2) is is2 judged judged2 compares = absurd (cc compares.0)
+  of-proofs source proof_bytes source2 proof_bytes2 text one two (Descent plan direction) (Optimum plan2 multipliers2) is is2 judged judged2 compares = absurd (cc compares.0)
+  of-proofs source proof_bytes source2 proof_bytes2 text one two (Descent plan direction) (Refutation multipliers2) is is2 judged judged2 compares = absurd (cc compares.0)
+  of-proofs source proof_bytes source2 proof_bytes2 text one two (Descent plan direction) (Descent plan2 direction2) is is2 judged judged2 compares = absurd (cc compares.0)
 
   -- What is promised where the status is 0.
-  pub difference-promised : (bytes proof_bytes bytes2 proof_bytes2 text : List ℕ) → DueForCompared written gap bytes proof_bytes bytes2 proof_bytes2 Done text → IsPromisedDifference written bytes bytes2 text
-  difference-promised bytes proof_bytes bytes2 proof_bytes2 text (inl refused) = absurd (refused.not_done refl)
-  difference-promised bytes proof_bytes bytes2 proof_bytes2 text (inr (inl second)) = absurd (second.refused.not_done refl)
-  difference-promised bytes proof_bytes bytes2 proof_bytes2 text (inr (inr both)) =
-      of-proofs bytes proof_bytes bytes2 proof_bytes2 text both.one both.two both.one.proof both.two.proof refl refl both.first both.second both.compares
+  pub difference-promised : (source : Source) (proof_bytes : List ℕ) (source2 : Source) (proof_bytes2 text : List ℕ) → DueForCompared written gap source proof_bytes source2 proof_bytes2 Done text → IsPromisedDifference written source source2 text
+  difference-promised source proof_bytes source2 proof_bytes2 text (inl refused) = absurd (refused.not_done refl)
+  difference-promised source proof_bytes source2 proof_bytes2 text (inr (inl second)) = absurd (second.refused.not_done refl)
+  difference-promised source proof_bytes source2 proof_bytes2 text (inr (inr both)) =
+      of-proofs source proof_bytes source2 proof_bytes2 text both.one both.two both.one.proof both.two.proof refl refl both.first both.second both.compares

@@ -1,6 +1,5 @@
 -- A file that can be written is, and a plan that can be accepted is: what is due for them is that.
-use Rattle.osemosys_run.proofs.Common.{◌≡◌, ◌⊎◌, ◌<◌, ◌<ℤ◌, ◌++◌, ℕ, ℤ, pos, inl, inr, List, Option, Some, None, refl, ap, sym, ◌∙◌, subst, arith, ints, same_Some, Rational, whole, first_wide, Blocks, Data, SetLists, Row, Var, row_name_cmp, var_cmp, value_in, all_variables, steps, cost_entries, model_cost, reason_of, bound-over, AreMultipliers, IsMultiplierFault, IsPlan, IsPlanFault, Fields, records_of, Proof, IsProof, IsProofFault, instances, RowName, Place, AreRowsOf, CanBeMade, HasStopped, BookFail, Status, Done, Accepted, IsWithinLimits, PassesLimits, DueBySize, HasNoRows, AreInGap, CanBeAccepted, CanBeWritten, DueForText, DueForCheck, DueForMultiplierFile, DueForPlan, DueForPlanFile, IsRejected, TellsMultipliers, check_conditions, multiplier_bound, plan_cost, DueForEquations, DueWhereNotAccepted}
-use Rattle.mathprog_data.specs.Verdicts.{Says}
+use Rattle.osemosys_run.proofs.Common.{Source, SolveMethod, ◌≡◌, ◌⊎◌, ◌<◌, ◌<ℤ◌, ◌++◌, ℕ, ℤ, pos, inl, inr, List, Option, Some, None, refl, ap, sym, ◌∙◌, subst, arith, ints, same_Some, Rational, whole, first_wide, Data, SetLists, Row, Var, row_name_cmp, var_cmp, value_in, all_variables, steps, cost_entries, model_cost, reason_of, bound-over, AreMultipliers, IsMultiplierFault, IsPlan, IsPlanFault, Fields, records_of, Proof, IsProof, IsProofFault, instances, RowName, Place, AreRowsOf, CanBeMade, HasStopped, BookFail, Status, Done, Accepted, IsWithinLimits, PassesLimits, DueBySize, HasNoRows, AreInGap, CanBeAccepted, CanBeWritten, DueForText, DueForCheck, DueForMultiplierFile, DueForPlan, DueForPlanFile, IsRejected, TellsMultipliers, check_conditions, multiplier_bound, plan_cost, DueForEquations, DueWhereNotAccepted}
 use Rattle.row_core.proofs.EvaluatedLaws.{sum-IsOver}
 use Rattle.named_equations.specs.Plans.{Feasible}
 use Rattle.certificate_checker.specs.declared.verdicts.Verdict.TheVariants as verdicts
@@ -14,9 +13,9 @@ use Rattle.check_command.proofs.OutcomeLaws.{fails-parts, of_bound, of_gap, of_p
 
 -- what the laws of acceptance, of files of plans and proofs, and of the book say
 pub record Laws : Type 0 where
-  pub one_reading : (text : List ℕ) (blocks others : Blocks) → Says text blocks → Says text others → blocks ≡ others
-  pub one_data : (text : List ℕ) (d e : Data) → Accepted text d → Accepted text e → d ≡ e
-  pub not_both : (text : List ℕ) (d : Data) (status : Status) (line : List ℕ) → Accepted text d → DueWhereNotAccepted text status line → ⊥
+  pub one_data : (source : Source) (d e : Data) → Accepted source d → Accepted source e → d ≡ e
+  pub one_count : (source : Source) (d e : Data) (a : Accepted source d) (b : Accepted source e) → a.rounded ≡ b.rounded
+  pub not_both : (source : Source) (d : Data) (status : Status) (line : List ℕ) → Accepted source d → DueWhereNotAccepted source status line → ⊥
   pub one_plan : (sets : SetLists) (vars : List Var) (all : List Fields) (p q : List (Var × Rational)) → IsPlan sets vars all p → IsPlan sets vars all q → p ≡ q
   pub one_multipliers : (sets : SetLists) (names : List RowName) (all : List Fields) (p q : List (RowName × Rational)) → AreMultipliers sets names all p → AreMultipliers sets names all q → p ≡ q
   pub plan_or_fault : (sets : SetLists) (vars : List Var) (all : List Fields) (p : List (Var × Rational)) (fault : PlanFault) → IsPlan sets vars all p → ¬ (IsPlanFault sets vars all fault)
@@ -43,24 +42,24 @@ module _ (laws : Laws) (places : ℕ) (d : Data) (can_make : CanBeMade places d 
   no_rows status text none = equations_done laws places d status text can_make (inr none)
 
   module _ (within : (rows : List Row) → AreRowsOf places d (instances d) rows → IsWithinLimits rows (all_variables d)) where
-    pub not_too_large : (rows : List Row) → AreRowsOf places d (instances d) rows → (status : Status) (text : List ℕ) → PassesLimits rows (all_variables d) status text → ⊥
-    not_too_large rows are status text large =
+    pub not_too_large : (method : SolveMethod) (pivots : ℕ) (rows : List Row) → AreRowsOf places d (instances d) rows → (status : Status) (text : List ℕ) → PassesLimits method pivots rows (all_variables d) status text → ⊥
+    not_too_large method pivots rows are status text large =
         let limits = within rows are in
         elim large.passed [ inl many ↦ omega (arith, many, limits.0) | inr many ↦ omega (arith, many, limits.1) ]
 
-    pub found_or_due : (Found Over : Status → List ℕ → Type 0) (rows : List Row) → AreRowsOf places d (instances d) rows → (status : Status) (text : List ℕ) → DueBySize Found Over rows (all_variables d) status text
+    pub found_or_due : (method : SolveMethod) (pivots : ℕ) (Found Over : Status → List ℕ → Type 0) (rows : List Row) → AreRowsOf places d (instances d) rows → (status : Status) (text : List ℕ) → DueBySize method pivots Found Over rows (all_variables d) status text
         → Found status text ⊎ Over status text
-    found_or_due Found Over rows are status text (inl found) = inl found
-    found_or_due Found Over rows are status text (inr (inl large)) = absurd (not_too_large rows are status text large)
-    found_or_due Found Over rows are status text (inr (inr due)) = inr due.1
+    found_or_due method pivots Found Over rows are status text (inl found) = inl found
+    found_or_due method pivots Found Over rows are status text (inr (inl large)) = absurd (not_too_large method pivots rows are status text large)
+    found_or_due method pivots Found Over rows are status text (inr (inr due)) = inr due.1
 
--- over an accepted text nothing else is due than over its data
-pub over_accepted : Laws → (Over : ℕ → Data → Status → List ℕ → Type 0) (bytes : List ℕ) (d : Data) (status : Status) (text : List ℕ) → (accepted : Accepted bytes d)
-    → DueForText Over bytes status text → Over accepted.blocks.rounded d status text
-over_accepted laws Over bytes d status text accepted (inl refused) = absurd (laws.not_both bytes d status text accepted refused)
-over_accepted laws Over bytes d status text accepted (inr said) =
-    subst (λ (e : Data). Over accepted.blocks.rounded e status text) (laws.one_data bytes said.0 d said.1 accepted)
-    (subst (λ (blocks : Blocks). Over blocks.rounded said.0 status text) (laws.one_reading bytes said.1.blocks accepted.blocks said.1.says accepted.says) said.2)
+-- over an accepted data file nothing else is due than over its data
+pub over_accepted : Laws → (Over : ℕ → Data → Status → List ℕ → Type 0) (source : Source) (d : Data) (status : Status) (text : List ℕ) → (accepted : Accepted source d)
+    → DueForText Over source status text → Over accepted.rounded d status text
+over_accepted laws Over source d status text accepted (inl refused) = absurd (laws.not_both source d status text accepted refused)
+over_accepted laws Over source d status text accepted (inr said) =
+    subst (λ (e : Data). Over accepted.rounded e status text) (laws.one_data source said.0 d said.1 accepted)
+    (subst (λ (n : ℕ). Over n said.0 status text) (laws.one_count source said.0 d said.1 accepted) said.2)
 
 -- ---- checking
 
@@ -109,12 +108,12 @@ module _ (places : ℕ) (d : Data) (rows : List Row) (are_rows : AreRowsOf place
   plan_done multipliers gap status text kept fit (inr (inl rejected)) = absurd (nothing-rejected multipliers gap status text kept rejected)
   plan_done multipliers gap status text kept fit (inr (inr wide)) = absurd (cc (sym fit ∙ wide.wide))
 
-pub written : Laws → (places : ℕ) (bytes : List ℕ) (status : Status) (text : List ℕ) → CanBeWritten places bytes → DueForText (λ rounded. DueForEquations places) bytes status text → status ≡ Done
-written laws places bytes status text can due =
-    equations_done laws places can.d status text can.made (over_accepted laws (λ rounded. DueForEquations places) bytes can.d status text can.accepted due)
+pub written : Laws → (places : ℕ) (source : Source) (status : Status) (text : List ℕ) → CanBeWritten places source → DueForText (λ rounded. DueForEquations places) source status text → status ≡ Done
+written laws places source status text can due =
+    equations_done laws places can.d status text can.made (over_accepted laws (λ rounded. DueForEquations places) source can.d status text can.accepted due)
 
 -- over data of which the rows can be made, with a feasible plan
-module _ (laws : Laws) (gap places : ℕ) (bytes plan_bytes : List ℕ) (multiplier_bytes : Option (List ℕ)) (status : Status) (text : List ℕ) (can : CanBeAccepted gap places bytes plan_bytes multiplier_bytes) where
+module _ (laws : Laws) (gap places : ℕ) (source : Source) (plan_bytes : List ℕ) (multiplier_bytes : Option (List ℕ)) (status : Status) (text : List ℕ) (can : CanBeAccepted gap places source plan_bytes multiplier_bytes) where
   plan_accepted : (rows : List Row) → AreRowsOf places can.d (instances can.d) rows → (multipliers : Option (List (RowName × Rational))) → TellsMultipliers can.d multiplier_bytes multipliers
       → DueForPlan places can.d rows can.plan multipliers gap status text → status ≡ Done
   plan_accepted rows are multipliers told due =
@@ -139,5 +138,5 @@ module _ (laws : Laws) (gap places : ℕ) (bytes plan_bytes : List ℕ) (multipl
   data_accepted (inr (inl wide)) = equations_done laws places can.d status text can.made (inr (inl wide))
   data_accepted (inr (inr many)) = equations_done laws places can.d status text can.made (inr (inr many))
 
-  pub accepted : DueForText (λ rounded. DueForCheck places plan_bytes multiplier_bytes gap) bytes status text → status ≡ Done
-  accepted due = data_accepted (over_accepted laws (λ rounded. DueForCheck places plan_bytes multiplier_bytes gap) bytes can.d status text can.accepted due)
+  pub accepted : DueForText (λ rounded. DueForCheck places plan_bytes multiplier_bytes gap) source status text → status ≡ Done
+  accepted due = data_accepted (over_accepted laws (λ rounded. DueForCheck places plan_bytes multiplier_bytes gap) source can.d status text can.accepted due)

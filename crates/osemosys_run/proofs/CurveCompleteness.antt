@@ -1,5 +1,5 @@
 -- Where nothing stops the trial of any limit, a curve is told whole.
-use Rattle.osemosys_run.proofs.Common.{◌≡◌, ℕ, ℤ, ◌+◌, inl, inr, List, [], ◌∷◌, ◌++◌, Option, Some, None, refl, sym, ◌∙◌, ap, subst, AllByRecursion, Data, index_of, members, EMISSION, REGION, Place, instances, SolveMethod, DueForText, Status, Done, DueForCurve, DueForLimits, limits_in, CanBeDrawn, CanBeTried}
+use Rattle.osemosys_run.proofs.Common.{Source, ◌≡◌, ℕ, ℤ, ◌+◌, inl, inr, List, [], ◌∷◌, ◌++◌, Option, Some, None, refl, sym, ◌∙◌, ap, subst, AllByRecursion, Data, index_of, members, EMISSION, REGION, Place, instances, SolveMethod, DueForText, Status, Done, DueForCurve, DueForLimits, limits_in, CanBeDrawn, CanBeTried}
 use Rattle.row_book.specs.declared.fail.BookFail.TheVariants as book
 use Rattle.simplex_core.specs.declared.stops.TrialStop.{TrialStop}
 use Rattle.emission_curve.specs.Ends.{HasLine, HasLineBelow, HasNoBound, HasNoPlan, IsStopped, PointEnd}
@@ -59,14 +59,14 @@ module _ (laws : Laws) (places : ℕ) (d : Data) (r e : ℕ) (wanted : Wanted) w
       (subst (AllByRecursion (CanBeTried places d r e wanted.pivots)) (sym refusal.split) can) in
       elim refusal.refuses [
         | inl many ↦ no_rows laws places (with_limit d r e refusal.limit) tried.made status text (inr many)
-        | inr made ↦ absurd (not_too_large laws places (with_limit d r e refusal.limit) tried.made tried.within made.rows made.are_rows status text made.due)
+        | inr made ↦ absurd (not_too_large laws places (with_limit d r e refusal.limit) tried.made tried.within wanted.method wanted.pivots made.rows made.are_rows status text made.due)
       ]
 
 -- what the words ask for
 abbrev wanted_for : SolveMethod → ℕ → ℕ → Wanted
 wanted_for method pivots gap = record { method = method; pivots = pivots; gap = gap }
 
-module _ (laws : Laws) (region emission : List ℕ) (limits : List ℤ) (gap pivots places : ℕ) (method : SolveMethod) (bytes : List ℕ) (status : Status) (text : List ℕ) (can : CanBeDrawn region emission limits pivots places bytes) where
+module _ (laws : Laws) (region emission : List ℕ) (limits : List ℤ) (gap pivots places : ℕ) (method : SolveMethod) (source : Source) (status : Status) (text : List ℕ) (can : CanBeDrawn region emission limits pivots places source) where
   members_done : DueForCurve places (wanted_for method pivots gap) (record { region = region; emission = emission }) limits can.d status text → status ≡ Done
   members_done (inl none) = absurd (no_member (index_of (members can.d.sets REGION) region) can.r none.missing can.region_is)
   members_done (inr (inl alone)) = absurd (no_member (index_of (members can.d.sets EMISSION) emission) can.e alone.emission_isnt.missing can.emission_is)
@@ -76,5 +76,5 @@ module _ (laws : Laws) (region emission : List ℕ) (limits : List ℤ) (gap piv
       (subst (λ e. DueForLimits places can.d both.r e (wanted_for method pivots gap) limits status text) (same_member (index_of (members can.d.sets EMISSION) emission) both.e can.e both.emission_is.found can.emission_is)
       both.due))
 
-  pub drawn : DueForText (λ rounded. DueForCurve places (wanted_for method pivots gap) (record { region = region; emission = emission }) limits) bytes status text → status ≡ Done
-  drawn due = members_done (over_accepted laws (λ rounded. DueForCurve places (wanted_for method pivots gap) (record { region = region; emission = emission }) limits) bytes can.d status text can.accepted due)
+  pub drawn : DueForText (λ rounded. DueForCurve places (wanted_for method pivots gap) (record { region = region; emission = emission }) limits) source status text → status ≡ Done
+  drawn due = members_done (over_accepted laws (λ rounded. DueForCurve places (wanted_for method pivots gap) (record { region = region; emission = emission }) limits) source can.d status text can.accepted due)

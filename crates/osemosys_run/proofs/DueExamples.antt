@@ -1,5 +1,5 @@
 -- What is due for worked examples: the words, the files, the status and the text; and what isn't.
-use Rattle.osemosys_run.proofs.Common.{◌≡◌, ℕ, zero, suc, ◌+◌, ◌<◌, ◌≤◌, ◌-◌, ◌^◌, List, [], ◌∷◌, ◌++◌, length, take, refl, sym, ap, subst, arith, inl, inr, Bool, true, false, MatchBool, nat_lt, Status, Done, Refused, Words, ReadFault, WriteFault, Memory, Rejected, Rose, output, asked, most_bytes, DueForText, too_long_line, Stops, StopsAt, BeganOne, HasFailed, part_of_file, refused_file, whole_file, Sight, ReadEnd, Completes, AskForEquations, Due, DueForFile, DueForEquations, Caused, TellsEnd, IsReadToEnd, Delivers, Sent}
+use Rattle.osemosys_run.proofs.Common.{plain, Mps, Check, Ok, Err, Result, Request, Question, WordFault, ◌≡◌, ℕ, zero, suc, ◌+◌, ◌<◌, ◌≤◌, ◌-◌, ◌^◌, List, [], ◌∷◌, ◌++◌, length, take, refl, sym, ap, subst, arith, inl, inr, Bool, true, false, MatchBool, nat_lt, Status, Done, Refused, Words, ReadFault, WriteFault, Memory, Rejected, Rose, output, asked, most_bytes, DueForText, too_long_line, Stops, StopsAt, BeganOne, HasFailed, part_of_file, refused_file, whole_file, Sight, ReadEnd, Completes, AskForEquations, Due, DueForFile, DueForEquations, Caused, TellsEnd, IsReadToEnd, Delivers, Sent}
 use Rattle.std.specs.Prelude.{codes, Option, Some, None, ⊤}
 use Rattle.std.specs.Fmt.{digits}
 use Rattle.mathprog_data.specs.declared.fault.DataFault.{DataFault}
@@ -38,15 +38,19 @@ words_due = (refl, refl)
 other_fault : (line : List ℕ) → Due (codes "mps" ∷ []) (with_file []) (Words faults.BadCommand) line → ⊥
 other_fault line h = cc h.0
 
+-- what is due for `mps` over the bytes of a data file
+abbrev equations_due : List ℕ → Status → List ℕ → Type 0
+equations_due bytes = DueForText (λ rounded. DueForEquations 6) (plain bytes)
+
 -- a file of 64 MiB and a byte is too long, and one of 64 MiB isn't
-too_long_due : (bytes : List ℕ) → length bytes ≡ 67108865 → DueForFile (DueForText (λ rounded. DueForEquations 6)) 1 (Some bytes) (Refused (refusals.TooLong 1)) (codes "refused too long file 1\n")
+too_long_due : (bytes : List ℕ) → length bytes ≡ 67108865 → DueForFile equations_due 1 (Some bytes) (Refused (refusals.TooLong 1)) (codes "refused too long file 1\n")
 unfolding digits
 too_long_due bytes e =
     let longer : nat_lt most_bytes (length bytes) ≡ true = ap (nat_lt most_bytes) e in
-    subst (λ (b : Bool). MatchBool b ((Refused (refusals.TooLong 1) ≡ Refused (refusals.TooLong 1)) × (codes "refused too long file 1\n" ≡ too_long_line 1)) (DueForText (λ rounded. DueForEquations 6) bytes (Refused (refusals.TooLong 1)) (codes "refused too long file 1\n")))
+    subst (λ (b : Bool). MatchBool b ((Refused (refusals.TooLong 1) ≡ Refused (refusals.TooLong 1)) × (codes "refused too long file 1\n" ≡ too_long_line 1)) (equations_due bytes (Refused (refusals.TooLong 1)) (codes "refused too long file 1\n")))
     (sym longer) (refl, refl)
 
-not_too_long : (bytes line : List ℕ) → length bytes ≡ 67108864 → DueForFile (DueForText (λ rounded. DueForEquations 6)) 1 (Some bytes) (Refused (refusals.TooLong 1)) line → DueForText (λ rounded. DueForEquations 6) bytes (Refused (refusals.TooLong 1)) line
+not_too_long : (bytes line : List ℕ) → length bytes ≡ 67108864 → DueForFile equations_due 1 (Some bytes) (Refused (refusals.TooLong 1)) line → equations_due bytes (Refused (refusals.TooLong 1)) line
 not_too_long bytes line e h = rw e at h
 
 -- ---- what is due of several files
@@ -157,12 +161,23 @@ lost_as_made (inr (inr lost)) = elim lost.left [
       cc e
 ]
 
+-- a question, and what words ask, is `check`
+abbrev is_check : Question → Type 0
+is_check (Check name plan multipliers gap places) = ⊤
+is_check question = ⊥
+
+abbrev asks_check : Result Request WordFault → Type 0
+asks_check (Ok request) = is_check request.question
+asks_check (Err fault) = ⊤
+
 -- the words that ask for it
 equations_asked : AskForEquations (codes "mps" ∷ codes "FILE" ∷ [])
-equations_asked = record { name = codes "FILE"; places = 6; asks = refl }
+equations_asked = record { name = codes "FILE"; places = 6; request = record { question = Mps (codes "FILE") 6; changes = None; changes2 = None }; asks = refl; is = refl }
 
 plan_asked : AskForEquations check_plan → ⊥
-plan_asked asks = cc asks.asks
+plan_asked asks =
+    let same : Ok (record { question = Check (codes "FILE") (codes "PLAN") None 0 6; changes = None; changes2 = None }) ≡ Ok asks.request = asks.asks in
+    subst is_check asks.is (subst asks_check same tt)
 
 -- ---- causes, also over a shelf that tells nothing
 

@@ -1,15 +1,19 @@
 -- What the words of the command line ask for, computed on examples.
-use Rattle.osemosys_run.proofs.Common.{◌≡◌, false, [], ◌∷◌, Some, None, refl, Check, Mps, asked, names_of}
+use Rattle.osemosys_run.proofs.Common.{◌≡◌, false, [], ◌∷◌, Some, None, refl, Question, Request, Check, Mps, asked, names_of}
 use Rattle.std.specs.Prelude.{codes, Ok, Err}
 use Rattle.command_words.specs.declared.fault.WordFault.TheVariants.{NoCommand, BadCommand, BadForm, BadNumber, GapAlone}
 use Rattle.command_words.specs.WordParts.{is_option}
+
+-- a question without changes of its data
+abbrev plain_request : Question → Request
+plain_request question = record { question = question; changes = None; changes2 = None }
 
 -- ---- `mps`, and words that ask for nothing
 
 no_words : asked [] ≡ Err NoCommand
 no_words = refl
 
-one_file : asked (codes "mps" ∷ codes "FILE" ∷ []) ≡ Ok (Mps (codes "FILE") 6)
+one_file : asked (codes "mps" ∷ codes "FILE" ∷ []) ≡ Ok (plain_request (Mps (codes "FILE") 6))
 one_file = refl
 
 unknown_command : asked (codes "mpz" ∷ codes "FILE" ∷ []) ≡ Err BadCommand
@@ -51,26 +55,26 @@ named_like_an_option = refl
 two_dashes : asked (codes "mps" ∷ codes "--" ∷ []) ≡ Err BadForm
 two_dashes = refl
 
-file_after_two_dashes : asked (codes "mps" ∷ codes "--" ∷ codes "FILE" ∷ []) ≡ Ok (Mps (codes "FILE") 6)
+file_after_two_dashes : asked (codes "mps" ∷ codes "--" ∷ codes "FILE" ∷ []) ≡ Ok (plain_request (Mps (codes "FILE") 6))
 file_after_two_dashes = refl
 
 option_after_file : asked (codes "mps" ∷ codes "FILE" ∷ codes "--gap" ∷ codes "5" ∷ []) ≡ Err BadForm
 option_after_file = refl
 
 -- '-' alone is the name of a file
-one_dash : asked (codes "mps" ∷ codes "-" ∷ []) ≡ Ok (Mps (codes "-") 6)
+one_dash : asked (codes "mps" ∷ codes "-" ∷ []) ≡ Ok (plain_request (Mps (codes "-") 6))
 one_dash = refl
 
 -- and so is a word of no bytes
-empty_name : asked (codes "mps" ∷ [] ∷ []) ≡ Ok (Mps [] 6)
+empty_name : asked (codes "mps" ∷ [] ∷ []) ≡ Ok (plain_request (Mps [] 6))
 empty_name = refl
 
 -- a '-' further on makes no option
-dash_inside : asked (codes "mps" ∷ codes "a-b" ∷ []) ≡ Ok (Mps (codes "a-b") 6)
+dash_inside : asked (codes "mps" ∷ codes "a-b" ∷ []) ≡ Ok (plain_request (Mps (codes "a-b") 6))
 dash_inside = refl
 
 -- the command may be the name of a file too
-command_twice : asked (codes "mps" ∷ codes "mps" ∷ []) ≡ Ok (Mps (codes "mps") 6)
+command_twice : asked (codes "mps" ∷ codes "mps" ∷ []) ≡ Ok (plain_request (Mps (codes "mps") 6))
 command_twice = refl
 
 blank_before_dash : is_option (codes " -x") ≡ false
@@ -78,10 +82,10 @@ blank_before_dash = refl
 
 -- ---- `check`
 
-a_plan : asked (codes "check" ∷ codes "FILE" ∷ codes "PLAN" ∷ []) ≡ Ok (Check (codes "FILE") (codes "PLAN") None 0 6)
+a_plan : asked (codes "check" ∷ codes "FILE" ∷ codes "PLAN" ∷ []) ≡ Ok (plain_request (Check (codes "FILE") (codes "PLAN") None 0 6))
 a_plan = refl
 
-with_multipliers : asked (codes "check" ∷ codes "FILE" ∷ codes "PLAN" ∷ codes "BOUND" ∷ codes "--gap" ∷ codes "142858" ∷ []) ≡ Ok (Check (codes "FILE") (codes "PLAN") (Some (codes "BOUND")) 142858 6)
+with_multipliers : asked (codes "check" ∷ codes "FILE" ∷ codes "PLAN" ∷ codes "BOUND" ∷ codes "--gap" ∷ codes "142858" ∷ []) ≡ Ok (plain_request (Check (codes "FILE") (codes "PLAN") (Some (codes "BOUND")) 142858 6))
 with_multipliers = refl
 
 gap_alone : asked (codes "check" ∷ codes "FILE" ∷ codes "PLAN" ∷ codes "--gap" ∷ codes "0" ∷ []) ≡ Err GapAlone
@@ -94,5 +98,5 @@ gap_too_great : asked (codes "check" ∷ codes "FILE" ∷ codes "PLAN" ∷ codes
 gap_too_great = refl
 
 -- the data file is the first, then the plan's, then that of multipliers
-in_order : names_of (Check (codes "FILE") (codes "PLAN") (Some (codes "BOUND")) 0 6) ≡ codes "FILE" ∷ codes "PLAN" ∷ codes "BOUND" ∷ []
+in_order : names_of (plain_request (Check (codes "FILE") (codes "PLAN") (Some (codes "BOUND")) 0 6)) ≡ codes "FILE" ∷ codes "PLAN" ∷ codes "BOUND" ∷ []
 in_order = refl

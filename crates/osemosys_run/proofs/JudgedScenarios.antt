@@ -1,5 +1,5 @@
 -- From what `check` says of a proof over the rows of data to what is known of a scenario.
-use Rattle.osemosys_run.proofs.Common.{◌≡◌, ◌≢◌, ◌++◌, ℕ, List, [], ◌∷◌, Bool, true, false, filter, inl, inr, Ok, Err, refl, sym, ◌∙◌, subst, AllByRecursion, Rational, Data, SetLists, RowName, Var, Book, Accepted, HasNoRows, IsMadeBook, DueWhereNotAccepted, Fields, Proof, Optimum, Refutation, Descent, IsProof, Answer, Status, Done, TellsProof, DueOfCheck, IsRefused, AreTablesFor, CompareShow, Judged, files_line, Which, CheckedBy, AcceptsOver, IsKept, IsUnkept, RefusesOver}
+use Rattle.osemosys_run.proofs.Common.{Source, ◌≡◌, ◌≢◌, ◌++◌, ℕ, List, [], ◌∷◌, Bool, true, false, filter, inl, inr, Ok, Err, refl, sym, ◌∙◌, subst, AllByRecursion, Rational, Data, SetLists, RowName, Var, Book, Accepted, HasNoRows, IsMadeBook, DueWhereNotAccepted, Fields, Proof, Optimum, Refutation, Descent, IsProof, Answer, Status, Done, TellsProof, DueOfCheck, IsRefused, AreTablesFor, CompareShow, Judged, files_line, Which, CheckedBy, AcceptsOver, IsKept, IsUnkept, RefusesOver}
 use Rattle.std.proofs.Common.{cond}
 use Rattle.plan_files.specs.Listed.{IsListedVariable}
 use Rattle.row_core.specs.NameTexts.{VariableIsWithin}
@@ -16,10 +16,11 @@ no-rows-not_done places d status text (inl wide) = λ done. cc (sym done ∙ wid
 no-rows-not_done places d status text (inr many) = λ done. cc (sym done ∙ many.status_is)
 
 -- nor where the text of a data file isn't accepted
-pub refused-not_done : (bytes : List ℕ) (status : Status) (text : List ℕ) → DueWhereNotAccepted bytes status text → status ≢ Done
-refused-not_done bytes status text (inl refused) = λ done. cc (sym done ∙ refused.status_is)
-refused-not_done bytes status text (inr (blocks, says, inl refused)) = λ done. cc (sym done ∙ refused.status_is)
-refused-not_done bytes status text (inr (blocks, says, inr refused)) = λ done. cc (sym done ∙ refused.status_is)
+pub refused-not_done : (source : Source) (status : Status) (text : List ℕ) → DueWhereNotAccepted source status text → status ≢ Done
+refused-not_done source status text (inl (inl refused)) = λ done. cc (sym done ∙ refused.status_is)
+refused-not_done source status text (inl (inr (blocks, says, inl refused))) = λ done. cc (sym done ∙ refused.status_is)
+refused-not_done source status text (inl (inr (blocks, says, inr refused))) = λ done. cc (sym done ∙ refused.status_is)
+refused-not_done source status text (inr changes) = λ done. cc (sym done ∙ changes.refused.status_is)
 
 -- ---- over data
 
@@ -62,12 +63,12 @@ values_within sets vars names all (Refutation multipliers) listed is within = tt
 values_within sets vars names all (Descent plan direction) listed is within =
     keys_within sets direction (subst (AllByRecursion (IsListedVariable sets)) (sym is.told.2.named) (all-kept (IsListedVariable sets) _ vars listed))
 
--- ---- over the text of a data file
+-- ---- over a data file with its changes
 
 -- a scenario is known where the text is accepted and `check` accepts the proof over its data
-pub kept : (show : CompareShow) (places gap : ℕ) (bytes proof_bytes : List ℕ) (d : Data) (sets : SetLists) (accepted : AcceptedProof) (tables : List ℕ) → Accepted bytes d → sets ≡ d.sets
-    → AcceptsOver show places gap d proof_bytes accepted tables → IsKept show places gap bytes proof_bytes sets accepted tables
-kept show places gap bytes proof_bytes d sets accepted tables text same over =
+pub kept : (show : CompareShow) (places gap : ℕ) (source : Source) (proof_bytes : List ℕ) (d : Data) (sets : SetLists) (accepted : AcceptedProof) (tables : List ℕ) → Accepted source d → sets ≡ d.sets
+    → AcceptsOver show places gap d proof_bytes accepted tables → IsKept show places gap source proof_bytes sets accepted tables
+kept show places gap source proof_bytes d sets accepted tables text same over =
     let judged : Judged = record { data_of = d; rows = over.made.rows; proof = accepted.proof; said = accepted.said.items } in
     record {
       judged = judged;
@@ -77,11 +78,11 @@ kept show places gap bytes proof_bytes d sets accepted tables text same over =
     }
 
 -- what `check` says of another is told after the line of its files
-pub refused : (places gap : ℕ) (bytes proof_bytes : List ℕ) (which : Which) (said_status : Status) (said : List ℕ) (status : Status) (text : List ℕ) → IsUnkept places gap bytes proof_bytes said_status said
-    → status ≡ said_status → text ≡ files_line which ++ said → IsRefused places (CheckedBy places gap proof_bytes) bytes which status text
-refused places gap bytes proof_bytes which said_status said status text unkept same text_is = record {
+pub refused : (places gap : ℕ) (source : Source) (proof_bytes : List ℕ) (which : Which) (said_status : Status) (said : List ℕ) (status : Status) (text : List ℕ) → IsUnkept places gap source proof_bytes said_status said
+    → status ≡ said_status → text ≡ files_line which ++ said → IsRefused places (CheckedBy places gap proof_bytes) source which status text
+refused places gap source proof_bytes which said_status said status text unkept same text_is = record {
   said = said;
-  due = subst (λ (s : Status). DueOfCheck places (CheckedBy places gap proof_bytes) bytes s said) (sym same) unkept.due;
+  due = subst (λ (s : Status). DueOfCheck places (CheckedBy places gap proof_bytes) source s said) (sym same) unkept.due;
   not_done = λ done. unkept.not_done (sym same ∙ done);
   text_is = text_is;
 }

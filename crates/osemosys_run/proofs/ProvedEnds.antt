@@ -1,6 +1,7 @@
 -- What `solve` writes to prove an end is accepted by `check`.
-use Rattle.osemosys_run.proofs.Common.{◌≡◌, ℕ, List, [], inl, inr, refl, sym, ◌∙◌, codes, Data, line, Row, RowName, Place, all_variables, instances, AreRowsOf, CanBeMade, HasStopped, BookFail, Stop, Status, Done, Infeasible, Refused, Unbounded, Uncertified, HasNoRows, SolveMethod, Exact, Rounded, DueForProof, DueForProofFile, ProofLaws, descent-accepted, optimum-accepted, refutation-accepted, Wanted, wanted_by, DueBy, DueForEnd, DueForRows, DueForSolve, DueForSolveFrom, DueFrom, FromNothing, FromValues, WithoutStart, count_by, StartFile, rows-due}
+use Rattle.osemosys_run.proofs.Common.{◌≡◌, ℕ, List, [], inl, inr, refl, sym, ◌∙◌, codes, Data, line, Row, RowName, Place, all_variables, instances, AreRowsOf, CanBeMade, HasStopped, BookFail, Stop, Status, Done, Infeasible, Refused, Unbounded, Uncertified, HasNoRows, SolveMethod, Exact, Rounded, Unguessed, DueForProof, DueForProofFile, ProofLaws, descent-accepted, optimum-accepted, refutation-accepted, Wanted, wanted_by, DueBy, DueForEnd, DueForRows, DueForSolve, DueForSolveFrom, DueFrom, FromNothing, FromValues, WithoutStart, count_by, StartFile, rows-due}
 use Rattle.row_book.specs.declared.fail.BookFail.TheVariants as book
+use Rattle.command_answers.specs.Limits.{TellsSize}
 use Rattle.command_answers.specs.declared.status.Refusal.{Refusal}
 use Rattle.solve_command.specs.declared.solve.Shown.TheVariants.{Proof}
 use Rattle.result_tables.specs.declared.attempts.Begun.{Begun}
@@ -44,6 +45,18 @@ refused-so end status text refusal is = record {
   infeasible = λ h. let e : Refused refusal ≡ Infeasible = sym is ∙ h in absurd (cc e);
   unbounded = λ h. let e : Refused refusal ≡ Unbounded = sym is ∙ h in absurd (cc e);
 }
+
+unguessed-so : (end status : Status) (text : List ℕ) (pivots : ℕ) → end ≡ Unguessed pivots → AcceptsEnd end status text
+unguessed-so end status text pivots is = record {
+  solved = λ h. let e : Unguessed pivots ≡ Done = sym is ∙ h in absurd (cc e);
+  infeasible = λ h. let e : Unguessed pivots ≡ Infeasible = sym is ∙ h in absurd (cc e);
+  unbounded = λ h. let e : Unguessed pivots ≡ Unbounded = sym is ∙ h in absurd (cc e);
+}
+
+-- of a size nothing is said either
+size-so : (method : SolveMethod) (pivots rows columns : ℕ) (end status : Status) (file text : List ℕ) → TellsSize method pivots rows columns end file → AcceptsEnd end status text
+size-so Exact pivots rows columns end status file text told = refused-so end status text _ told.0
+size-so Rounded pivots rows columns end status file text told = unguessed-so end status text pivots told.0
 
 width_or_memory : (place : Place) → book.Width place ≡ book.Memory → ⊥
 width_or_memory place e = cc e
@@ -100,7 +113,7 @@ module _ (laws : ProofLaws) (made_law : (places : ℕ) (d : Data) (before : ℕ)
   accepts-rows : (method : SolveMethod) (rows : List Row) → AreRowsOf places d (instances d) rows → CanBeMade places d 0 (instances d) → DueForRows places d rows (to_prove method) rounded end file
       → DueForProof places file gap d status text → AcceptsEnd end status text
   accepts-rows method rows are can of_rows (inl again) = elim (rows-due places d rows (to_prove method) rounded end file of_rows) [
-    | inl large ↦ refused-so end status text _ large.status_is
+    | inl large ↦ size-so method pivots _ _ end status file text large.told
     | inr of ↦ of_method rows again.rows are again.are_rows again.due method method of
   ]
   accepts-rows method rows are can of_rows (inr none) = absurd (made-again can none)

@@ -1,5 +1,5 @@
 -- What is known of a reply: of an answer that is told, and of equations.
-use Rattle.osemosys_run.proofs.Common.{◌≡◌, ℕ, List, inl, inr, sym, subst, Data, Answer, Status, Done, Infeasible, Unbounded, Uncertified, Refused, Words, ReadFault, WriteFault, Memory, Rejected, Request, DueOver, DueForEquations, CanBeTold, IsOwn, IsReplyTo, IsTold, Reply, Told}
+use Rattle.osemosys_run.proofs.Common.{◌≡◌, ℕ, List, inl, inr, sym, subst, Data, Answer, Status, Done, Infeasible, Unbounded, Uncertified, Unguessed, Refused, Words, ReadFault, WriteFault, Memory, Rejected, Request, Source, DueForText, DueOver, DueForEquations, CanBeTold, IsForEquationsOf, IsOwn, IsReplyTo, IsTold, Reply, Told}
 
 -- the status and the text that are told are the ones of which something is known
 pub told_so : (P : Status → List ℕ → Type 0) (said : Status) (line : List ℕ) → P said line → (status : Status) (text : List ℕ) → IsTold said line status text → P status text
@@ -11,6 +11,7 @@ own_told Done own = tt
 own_told Infeasible own = tt
 own_told Unbounded own = tt
 own_told (Uncertified stop) own = tt
+own_told (Unguessed pivots) own = tt
 own_told (Refused refusal) own = tt
 own_told (Words fault) own = tt
 own_told (ReadFault stop) own = tt
@@ -34,3 +35,14 @@ pub equations_own : (places : ℕ) (d : Data) (status : Status) (text : List ℕ
 equations_own places d status text (inl written) = subst IsOwn (sym written.status_is) tt
 equations_own places d status text (inr (inl wide)) = subst IsOwn (sym wide.status_is) tt
 equations_own places d status text (inr (inr many)) = subst IsOwn (sym many.status_is) tt
+
+-- the answer that refuses a data file is a reply where its equations are asked for
+pub told_equations : (source : Source) (places : ℕ) (answer : Answer) (reply : Reply) → (reply ≡ Told answer) × IsOwn answer.status → DueForText (λ rounded. DueForEquations places) source answer.status answer.text.items
+    → IsForEquationsOf source places reply
+told_equations source places answer reply is due =
+    subst (IsForEquationsOf source places) (sym is.0)
+    (record {
+      due = λ status text said. told_so (DueForText (λ rounded. DueForEquations places) source) answer.status answer.text.items due status text said;
+      own = λ status text said. subst IsOwn (sym said.0) is.1;
+      can_be_sent = own_told answer.status is.1;
+    })

@@ -1,5 +1,5 @@
 -- What follows from what was delivered and from its cause.
-use Rattle.osemosys_run.proofs.Common.{◌≡◌, ◌⊎◌, ◌<◌, ◌+◌, ℕ, inl, inr, List, [], Option, Some, IsSome, Result, Ok, sym, ◌∙◌, subst, arith, Contains-from_Has, Rose, Lacks, Status, Done, Refused, ReadFault, WriteFault, Memory, WordFault, Request, asked, names_of, AreMoved, Stops, Sight, ReadEnd, moved-read, AreThere, CanBeDone, Completes, IsEndOf, Due, DueForRequest, DueOverAsked, names_asked, CanBeTold, IsOwn, Caused, CausedByRequest, IsAnswered, TellsEnd, HasReadAll, IsReadAtWriteFault, IsReadToEnd, ReadsWhole, SpeaksOfFiles, Delivers, IsBegun, Sent}
+use Rattle.osemosys_run.proofs.Common.{source_in, source2_in, ◌≡◌, ◌⊎◌, ◌<◌, ◌+◌, ℕ, inl, inr, List, [], Option, Some, IsSome, Result, Ok, sym, ◌∙◌, subst, arith, Contains-from_Has, Rose, Lacks, Status, Done, Refused, ReadFault, WriteFault, Memory, WordFault, Request, asked, names_of, AreMoved, Stops, Sight, ReadEnd, moved-read, AreThere, CanBeDone, Completes, IsEndOf, Due, DueForRequest, DueOverAsked, names_asked, CanBeTold, IsOwn, Caused, CausedByRequest, IsAnswered, TellsEnd, HasReadAll, IsReadAtWriteFault, IsReadToEnd, ReadsWhole, SpeaksOfFiles, Delivers, IsBegun, Sent}
 use Rattle.command_answers.specs.declared.status.Refusal.TheVariants as refusals
 use Rattle.command_answers.specs.declared.status.ReadStop.TheVariants as stops
 use Rattle.request_files.specs.Reading.{most_bytes}
@@ -30,7 +30,7 @@ delivered-failed_write A P status before after (inr (inr lost)) is = let no : Me
 
 -- over a sink without a fault, a request whose end is due comes to it, unless memory ran out
 pub delivered-complete : (A : Type 0) (words : List (List ℕ)) (files : List (List ℕ × List ℕ)) (status : Status) (before after : Sent)
-    → ((s : Status) (text : List ℕ) → Due words files s text → (request : Request) (contents : List (List ℕ)) → asked words ≡ Ok request → AreThere files (names_of request) contents → CanBeDone request contents → IsEndOf request s)
+    → ((s : Status) (text : List ℕ) → Due words files s text → (request : Request) (contents : List (List ℕ)) → asked words ≡ Ok request → AreThere files (names_of request) contents → CanBeDone request.question (source_in request contents) (source2_in request contents) contents → IsEndOf request.question s)
     → Delivers A (Due words files) status before after → ¬ Rose before.faults after.faults → Completes words files status
 delivered-complete A words files status before after ends (inl d) calm request contents asks there can = inl (ends status d.text d.due request contents asks there can)
 delivered-complete A words files status before after ends (inr (inl cut)) calm request contents asks there can = absurd (calm cut.rose)

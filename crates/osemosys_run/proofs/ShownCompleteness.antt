@@ -1,10 +1,11 @@
 -- A table and a page of a proof that can be accepted are written: what is due for it is that.
-use Rattle.osemosys_run.proofs.Common.{◌≡◌, Bool, ℕ, inl, inr, List, Some, None, sym, ◌∙◌, subst, same_Some, Row, all_variables, instances, AreRowsOf, records_of, Proof, Optimum, IsProof, Status, Done, DueForText, DueForProofFile, DueForProofTold, DueForShown, DueOverRows, DueForPage, ShowsPage, DueForKnown, DueForTable, ShowsProof, form_of, shown_named, Shown, ProvesOptimum}
+use Rattle.osemosys_run.proofs.Common.{Source, ◌≡◌, Bool, ℕ, inl, inr, List, Some, None, sym, ◌∙◌, subst, same_Some, Row, all_variables, instances, AreRowsOf, records_of, Proof, Optimum, IsProof, Status, Done, DueForText, DueForProofFile, DueForProofTold, DueForShown, DueOverRows, DueForPage, ShowsPage, DueForKnown, DueForTable, ShowsProof, form_of, shown_named, Shown, ProvesOptimum}
+use Rattle.result_pages.specs.Pages.{Title}
 use Rattle.osemosys_run.proofs.Completeness.{Laws, no_rows, over_accepted, plan_done}
 
 -- ---- any command of the two files
 
-module _ (laws : Laws) (gap places : ℕ) (bytes proof_bytes : List ℕ) (can : ProvesOptimum gap places bytes proof_bytes) (status : Status) (text : List ℕ) where
+module _ (laws : Laws) (gap places : ℕ) (source : Source) (proof_bytes : List ℕ) (can : ProvesOptimum gap places source proof_bytes) (status : Status) (text : List ℕ) where
   abbrev Told : Proof → Type 0
   Told proof = IsProof can.d.sets (all_variables can.d) (instances can.d) (records_of proof_bytes) proof
 
@@ -44,14 +45,14 @@ module _ (laws : Laws) (gap places : ℕ) (bytes proof_bytes : List ℕ) (can : 
     table_shown (inr (other, other_named, due)) =
         known_shown (subst (λ found. DueForKnown places Checked proof_bytes found (form_of exact) can.d status text) (same_Some other shown (sym other_named ∙ named)) due)
 
-    pub tabled : DueForText (λ rounded d. DueForTable places (λ rows. DueForProofFile places d rows proof_bytes gap) proof_bytes name (form_of exact) d) bytes status text → status ≡ Done
+    pub tabled : DueForText (λ rounded d. DueForTable places (λ rows. DueForProofFile places d rows proof_bytes gap) proof_bytes name (form_of exact) d) source status text → status ≡ Done
     tabled due =
         table_shown
-        (over_accepted laws (λ rounded d. DueForTable places (λ rows. DueForProofFile places d rows proof_bytes gap) proof_bytes name (form_of exact) d) bytes can.d status text can.accepted due)
+        (over_accepted laws (λ rounded d. DueForTable places (λ rows. DueForProofFile places d rows proof_bytes gap) proof_bytes name (form_of exact) d) source can.d status text can.accepted due)
 
   -- ---- `page`
 
-  pub paged : (name : List ℕ) → DueForText (λ rounded d. DueForPage name rounded places (λ rows. DueForProofFile places d rows proof_bytes gap) proof_bytes d) bytes status text → status ≡ Done
-  paged name due =
-      shown_done (λ rows. ShowsPage name can.accepted.blocks.rounded places can.d rows) (λ rows said shows. shows.0)
-      (over_accepted laws (λ rounded d. DueForPage name rounded places (λ rows. DueForProofFile places d rows proof_bytes gap) proof_bytes d) bytes can.d status text can.accepted due)
+  pub paged : (title : Title) → DueForText (λ rounded d. DueForPage title rounded places (λ rows. DueForProofFile places d rows proof_bytes gap) proof_bytes d) source status text → status ≡ Done
+  paged title due =
+      shown_done (λ rows. ShowsPage title can.accepted.rounded places can.d rows) (λ rows said shows. shows.0)
+      (over_accepted laws (λ rounded d. DueForPage title rounded places (λ rows. DueForProofFile places d rows proof_bytes gap) proof_bytes d) source can.d status text can.accepted due)

@@ -1,5 +1,5 @@
 -- A model that can be solved is brought to an end: what is due for it is that.
-use Rattle.osemosys_run.proofs.Common.{◌≡◌, ℕ, inl, inr, List, subst, Data, Row, all_variables, instances, AreRowsOf, CanBeMade, HasOptimum, IsPivotDue, IsWide, MethodEnd, method_end, Wanted, Summary, Status, CanBeSolved, IsEnded, DueForText, shown_of, wanted_by, DueForSummary, default_pivots, default_places, default_wanted, SolveMethod, Exact, Rounded, ComesToEnd, DueBy, DueForEnd, DueForRows, DueForSolve, DueForSolveFrom, DueFrom, begun_from, FromValues, WithoutStart, count_by, IsWithinLimits, rows-due}
+use Rattle.osemosys_run.proofs.Common.{Source, ◌≡◌, ℕ, inl, inr, List, subst, Data, Row, all_variables, instances, AreRowsOf, CanBeMade, HasOptimum, IsPivotDue, IsWide, MethodEnd, method_end, Wanted, Summary, Status, CanBeSolved, IsEnded, DueForText, shown_of, wanted_by, DueForSummary, default_pivots, default_places, default_wanted, SolveMethod, Exact, Rounded, ComesToEnd, DueBy, DueForEnd, DueForRows, DueForSolve, DueForSolveFrom, DueFrom, begun_from, FromValues, WithoutStart, count_by, IsWithinLimits, rows-due}
 use Rattle.std.specs.Prelude.{length}
 use Rattle.command_words.specs.declared.command.SolveShow.{SolveShow}
 use Rattle.solver_answers.specs.Answers.{Tells}
@@ -34,7 +34,7 @@ module _ (laws : Laws) (places : ℕ) (wanted : Wanted) (d : Data) (can_make : C
 
   rows_ended : (rows : List Row) → AreRowsOf places d (instances d) rows → (rounded : ℕ) (status : Status) (text : List ℕ) → DueForRows places d rows wanted rounded status text → IsEnded status
   rows_ended rows are rounded status text due = elim (rows-due places d rows wanted rounded status text due) [
-    | inl large ↦ absurd (not_too_large laws places d can_make within rows are status text large)
+    | inl large ↦ absurd (not_too_large laws places d can_make within wanted.method wanted.pivots rows are status text large)
     | inr end ↦ method_ended rows are wanted.method rounded status text end
   ]
 
@@ -43,21 +43,21 @@ module _ (laws : Laws) (places : ℕ) (wanted : Wanted) (d : Data) (can_make : C
   data_ended rounded status text (inr none) = inl (no_rows laws places d can_make status text none)
 
 -- so is the summary of a made file
-pub summary_ended : Laws → (bytes : List ℕ) (status : Status) (text : List ℕ) → CanBeSolved default_pivots default_places Summary bytes → DueForText (DueForSummary default_places) bytes status text → IsEnded status
-summary_ended laws bytes status text can due = of_data (over_accepted laws (DueForSummary default_places) bytes can.d status text can.accepted due)
+pub summary_ended : Laws → (source : Source) (status : Status) (text : List ℕ) → CanBeSolved default_pivots default_places Summary source → DueForText (DueForSummary default_places) source status text → IsEnded status
+summary_ended laws source status text can due = of_data (over_accepted laws (DueForSummary default_places) source can.d status text can.accepted due)
   where
-    of_data : DueForSummary default_places can.accepted.blocks.rounded can.d status text → IsEnded status
+    of_data : DueForSummary default_places can.accepted.rounded can.d status text → IsEnded status
     of_data (inl made) = elim made.due.1 [
-      | inl large ↦ absurd (not_too_large laws default_places can.d can.made can.within made.rows made.are_rows status made.due.0 large)
-      | inr found ↦ method_ended laws default_places default_wanted can.d can.made can.within can.ends made.rows made.are_rows Exact can.accepted.blocks.rounded status made.due.0 found.1
+      | inl large ↦ absurd (not_too_large laws default_places can.d can.made can.within default_wanted.method default_wanted.pivots made.rows made.are_rows status made.due.0 large)
+      | inr found ↦ method_ended laws default_places default_wanted can.d can.made can.within can.ends made.rows made.are_rows Exact can.accepted.rounded status made.due.0 found.1
     ]
     of_data (inr none) = inl (no_rows laws default_places can.d can.made status text none)
 
-module _ (laws : Laws) (gap pivots places : ℕ) (show : SolveShow) (bytes : List ℕ) (status : Status) (text : List ℕ) (can : CanBeSolved pivots places (shown_of show) bytes) where
-  pub ended : (method : SolveMethod) → DueForText (DueForSolve places (wanted_by gap pivots show method)) bytes status text → IsEnded status
+module _ (laws : Laws) (gap pivots places : ℕ) (show : SolveShow) (source : Source) (status : Status) (text : List ℕ) (can : CanBeSolved pivots places (shown_of show) source) where
+  pub ended : (method : SolveMethod) → DueForText (DueForSolve places (wanted_by gap pivots show method)) source status text → IsEnded status
   ended method due =
-      data_ended laws places (wanted_by gap pivots show method) can.d can.made can.within can.ends can.accepted.blocks.rounded status text
-      (over_accepted laws (DueForSolve places (wanted_by gap pivots show method)) bytes can.d status text can.accepted due)
+      data_ended laws places (wanted_by gap pivots show method) can.d can.made can.within can.ends can.accepted.rounded status text
+      (over_accepted laws (DueForSolve places (wanted_by gap pivots show method)) source can.d status text can.accepted due)
 
   -- and by guesses that begin from what a file holds
   abbrev from_words : Wanted
@@ -75,5 +75,5 @@ module _ (laws : Laws) (gap pivots places : ℕ) (show : SolveShow) (bytes : Lis
     from_ended rounded (inl made) = start_ended made.due.0 made.rows made.are_rows made.due.1 rounded made.due.2
     from_ended rounded (inr none) = inl (no_rows laws places can.d can.made status text none)
 
-    pub ended_from_start : DueForText (DueForSolveFrom places from_words start_bytes) bytes status text → IsEnded status
-    ended_from_start due = from_ended can.accepted.blocks.rounded (over_accepted laws (DueForSolveFrom places from_words start_bytes) bytes can.d status text can.accepted due)
+    pub ended_from_start : DueForText (DueForSolveFrom places from_words start_bytes) source status text → IsEnded status
+    ended_from_start due = from_ended can.accepted.rounded (over_accepted laws (DueForSolveFrom places from_words start_bytes) source can.d status text can.accepted due)

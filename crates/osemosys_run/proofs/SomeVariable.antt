@@ -1,9 +1,9 @@
 -- Accepted data have a variable: NewCapacity of the first technology in the first region and year, since these sets have a member.
-use Rattle.osemosys_run.proofs.Common.{◌≡◌, ℕ, zero, suc, Bool, true, false, ◌&&◌, List, [], ◌∷◌, ◌++◌, length, map, filter, None, refl, sym, subst, arith, lt-ltb, if◌then◌else◌, flat_map, range_with_len, Data, SetLists, empty_set, is_without_members, members, Blocks, Var, all_variables, exists, Has-from_Contains, Accepted}
+use Rattle.osemosys_run.proofs.Common.{◌≡◌, ℕ, zero, suc, Bool, true, false, ◌&&◌, List, [], ◌∷◌, ◌++◌, length, map, filter, None, refl, sym, subst, arith, lt-ltb, if◌then◌else◌, flat_map, range_with_len, Data, SetLists, empty_set, is_without_members, members, Blocks, Var, all_variables, exists, Has-from_Contains, Accepted, Source}
 use Rattle.std.specs.Prelude.{Contains, nat_eq, nat_lt}
 use Rattle.model_sets.specs.Names.{fuel, mode, region, required_sets, set_count, technology, timeslice, year}
-use Rattle.param_tables.specs.BlockData.{data_told, set_lists}
-use Rattle.param_tables.specs.Canonical.{canonical}
+use Rattle.param_tables.specs.BlockData.{set_lists}
+use Rattle.command_answers.proofs.AcceptedData.{accepted-sets}
 use Rattle.param_tables.specs.InTurn.{first_of}
 use Rattle.param_tables.specs.SetRefusals.{fault_in, member_refusals, set_refusals}
 use Rattle.named_equations.specs.Variables.{new_capacity}
@@ -40,9 +40,9 @@ some-members sets k h = by (length (members sets k)) h
     by zero h = absurd (cc h)
     by (suc n) h = lt-ltb 0 (suc n) (omega arith)
 
-module _ (bytes : List ℕ) (d : Data) (accepted : Accepted bytes d) where
+module _ (source : Source) (d : Data) (accepted : Accepted source d) where
   abbrev blocks : Blocks
-  blocks = accepted.blocks
+  blocks = accepted.says.blocks
 
   abbrev sets : SetLists
   sets = set_lists blocks
@@ -51,7 +51,7 @@ module _ (bytes : List ℕ) (d : Data) (accepted : Accepted bytes d) where
   without =
       none-mapped (λ (k : ℕ). fault_in k empty_set) (filter (is_without_members sets) required_sets)
       (none-last (flat_map (λ k. member_refusals k (members sets k)) (range_with_len 1 set_count)) (map (λ k. fault_in k empty_set) (filter (is_without_members sets) required_sets))
-      (none-first (set_refusals sets) accepted.sets_accepted))
+      (none-first (set_refusals sets) accepted.says.sets_accepted))
 
   at_region : (is_without_members sets region ≡ false) × (filter (is_without_members sets) (technology ∷ fuel ∷ mode ∷ timeslice ∷ year ∷ []) ≡ [])
   at_region = none-passes (is_without_members sets) region (technology ∷ fuel ∷ mode ∷ timeslice ∷ year ∷ []) without
@@ -75,14 +75,18 @@ module _ (bytes : List ℕ) (d : Data) (accepted : Accepted bytes d) where
   abbrev three : Bool → Bool → Bool → Bool
   three r t y = r && true && true && t && true && true && true && y
 
-  there : exists (canonical (data_told blocks)) (new_capacity 0 0 0) ≡ true
-  there = by (nat_lt 0 (length (members sets region))) (nat_lt 0 (length (members sets technology))) (nat_lt 0 (length (members sets year)))
-      (some-members sets region at_region.0) (some-members sets technology at_technology.0) (some-members sets year at_year.0)
+  -- and so has each set of the data, whatever changes there are
+  own-members : (k : ℕ) → is_without_members sets k ≡ false → nat_lt 0 (length (members d.sets k)) ≡ true
+  own-members k has = subst (λ (own : SetLists). nat_lt 0 (length (members own k)) ≡ true) (sym (accepted-sets source d accepted)) (some-members sets k has)
+
+  there : exists d (new_capacity 0 0 0) ≡ true
+  there = by (nat_lt 0 (length (members d.sets region))) (nat_lt 0 (length (members d.sets technology))) (nat_lt 0 (length (members d.sets year)))
+      (own-members region at_region.0) (own-members technology at_technology.0) (own-members year at_year.0)
     where
       by : (r t y : Bool) → r ≡ true → t ≡ true → y ≡ true → (true && three r t y && true) ≡ true
       by r t y hr ht hy = rw (hr, ht, hy) refl
 
   pub some-variable : all_variables d ≡ [] → ⊥
   some-variable none =
-      let found : Contains (all_variables d) (new_capacity 0 0 0) = (Contains-variables d (new_capacity 0 0 0)).1 (subst (λ (e : Data). exists e (new_capacity 0 0 0) ≡ true) (sym accepted.told) there) in
+      let found : Contains (all_variables d) (new_capacity 0 0 0) = (Contains-variables d (new_capacity 0 0 0)).1 there in
       Has-from_Contains [] (new_capacity 0 0 0) (subst (λ (vs : List Var). Contains vs (new_capacity 0 0 0)) none found)

@@ -1,5 +1,5 @@
 -- Where nothing stops the work, a span is found, or it is told that there is no plan or no least cost.
-use Rattle.osemosys_run.proofs.Common.{◌≡◌, ℕ, true, inl, inr, List, Option, Some, None, sym, ◌∙◌, subst, all_fit, Rational, Data, index_of, members, REGION, TECHNOLOGY, YEAR, Row, Var, all_variables, instances, AreRowsOf, CanBeMade, SolveMethod, Exact, Rounded, definers, DueForText, Status, IsWithinLimits, slack_formed, slack_limit, Stopped, CanBeSpanned, IsEnded, NothingStopsSpan}
+use Rattle.osemosys_run.proofs.Common.{Source, ◌≡◌, ℕ, true, inl, inr, List, Option, Some, None, sym, ◌∙◌, subst, all_fit, Rational, Data, index_of, members, REGION, TECHNOLOGY, YEAR, Row, Var, all_variables, instances, AreRowsOf, CanBeMade, SolveMethod, Exact, Rounded, definers, DueForText, Status, IsWithinLimits, slack_formed, slack_limit, Stopped, CanBeSpanned, IsEnded, NothingStopsSpan}
 use Rattle.certified_answers.specs.Worth.{multiplier_bound}
 use Rattle.span_finder.specs.SpanEnds.{Stops}
 use Rattle.span_command.specs.Span.{DueBy, DueForEnd, DueForFound, DueForMember, DueForMethod, DueForSpan, Finds, HasLeastCost, built}
@@ -57,17 +57,17 @@ module _ (laws : Laws) (places : ℕ) (d : Data) (var : Var) (wanted : Wanted) (
   pub member_ends : (rounded : ℕ) (status : Status) (text : List ℕ) → DueForMember places wanted var rounded d status text → IsEnded status
   member_ends rounded status text (inl made) =
       let rows = made.rows in
-      elim (found_or_due laws places d can_make within (Finds wanted.method places d rows var wanted rounded) (DueForMethod places d rows var wanted rounded) rows made.are_rows status text made.due) [
+      elim (found_or_due laws places d can_make within wanted.method wanted.pivots (Finds wanted.method places d rows var wanted rounded) (DueForMethod places d rows var wanted rounded) rows made.are_rows status text made.due) [
         | inl found ↦ find_comes wanted.method rows rounded status text found
         | inr due ↦ method_comes wanted.method rows rounded status text (nothing rows made.are_rows) due
       ]
   member_ends rounded status text (inr none) = inl (no_rows laws places d can_make status text none)
 
 -- what the words ask for
-abbrev wanted_for : SolveMethod → ℕ → ℕ → ℕ → Wanted
+abbrev wanted_for : SolveMethod → ℕ → Option ℕ → ℕ → Wanted
 wanted_for method slack gap pivots = record { method = method; slack = slack; gap = gap; pivots = pivots }
 
-module _ (laws : Laws) (region technology year : List ℕ) (slack gap pivots places : ℕ) (method : SolveMethod) (bytes : List ℕ) (status : Status) (text : List ℕ) (can : CanBeSpanned region technology year slack pivots places bytes) where
+module _ (laws : Laws) (region technology year : List ℕ) (slack : ℕ) (gap : Option ℕ) (pivots places : ℕ) (method : SolveMethod) (source : Source) (status : Status) (text : List ℕ) (can : CanBeSpanned region technology year slack pivots places source) where
   abbrev wanted : Wanted
   wanted = wanted_for method slack gap pivots
 
@@ -82,7 +82,7 @@ module _ (laws : Laws) (region technology year : List ℕ) (slack gap pivots pla
       (subst (λ y. DueForMember places wanted (built all.r all.t y) rounded can.d status text) (same_member (index_of (members can.d.sets YEAR) year) all.y can.y all.year_is.found can.year_is)
       all.due)))
 
-  pub spanned : DueForText (DueForSpan places wanted (record { region = region; technology = technology; year = year })) bytes status text → IsEnded status
+  pub spanned : DueForText (DueForSpan places wanted (record { region = region; technology = technology; year = year })) source status text → IsEnded status
   spanned due =
-      members_end can.accepted.blocks.rounded
-      (over_accepted laws (DueForSpan places wanted (record { region = region; technology = technology; year = year })) bytes can.d status text can.accepted due)
+      members_end can.accepted.rounded
+      (over_accepted laws (DueForSpan places wanted (record { region = region; technology = technology; year = year })) source can.d status text can.accepted due)

@@ -1,9 +1,9 @@
--- What is due of `compare` over the bytes of its four files, and what the line `difference` of its text promises.
+-- What is due of `compare` over its files, and what the line `difference` of its text promises.
 use Rattle.std.specs.Prelude.{◌≡◌, ℕ, ℤ, neg_ℤ, List, ◌++◌, Some}
 use Rattle.exact_num.specs.Rational.{Rational}
 use Rattle.model_sets.specs.Data.{Data}
 use Rattle.row_core.specs.declared.Row.{Row}
-use Rattle.command_answers.specs.Accepted.{Accepted}
+use Rattle.command_answers.specs.Accepted.{Accepted, Source}
 use Rattle.command_answers.specs.declared.status.Status.{Status}
 use Rattle.command_words.specs.declared.command.CompareShow.{CompareShow}
 use Rattle.command_words.specs.declared.command.CompareShow.TheVariants.{Page, Text}
@@ -18,24 +18,24 @@ use Rattle.plan_compare.specs.LeastCosts.{IsAtLeastDifference, IsAtMostDifferenc
 abbrev pub CheckedBy : ℕ → ℕ → List ℕ → Data → List Row → Status → List ℕ → Type 0
 CheckedBy places gap bytes d rows status text = DueForProofFile places d rows bytes gap status text
 
--- what is due for the bytes of a data file and its proof, and of another data file and its proof
-abbrev pub DueForCompared : Written → ℕ → (bytes proof_bytes bytes2 proof_bytes2 : List ℕ) → Status → List ℕ → Type 0
-DueForCompared written gap bytes proof_bytes bytes2 proof_bytes2 status text =
-    DueForCompare written (CheckedBy written.places gap proof_bytes) (CheckedBy written.places gap proof_bytes2) bytes proof_bytes bytes2 proof_bytes2 status text
+-- what is due for a data file with its changes and its proof, and for another data file with its own
+abbrev pub DueForCompared : Written → ℕ → (source : Source) (proof_bytes : List ℕ) (source2 : Source) (proof_bytes2 : List ℕ) → Status → List ℕ → Type 0
+DueForCompared written gap source proof_bytes source2 proof_bytes2 status text =
+    DueForCompare written (CheckedBy written.places gap proof_bytes) (CheckedBy written.places gap proof_bytes2) source proof_bytes source2 proof_bytes2 status text
 
 -- a text begins with these lines, and a page of two data files has them
 abbrev pub HasLines : CompareShow → List ℕ → List ℕ → Type 0
 HasLines Text lines text = (rest : List ℕ) × (text ≡ lines ++ rest)
 HasLines Page lines text = (first : Part) × (second : Part) × (text ≡ compare_page first second lines)
 
--- The texts of both data files are accepted; the lines that come first in a text, and that a page has, tell, of each, what a plan costs and a bound that none costs less than. Whatever no plan of the first data costs less than,
+-- Both data files are accepted with their changes; the lines that come first in a text, and that a page has, tell, of each, what a plan costs and a bound that none costs less than. Whatever no plan of the first data costs less than,
 -- no plan of the second costs less than that and the first number of the line `difference`; whatever no plan of the second costs less than, no plan of the first costs less than that
 -- less the second number. So where both data have a least cost, the second less the first is at least and at most so many millionths as the line tells.
-pub record IsPromisedDifference (written : Written) (bytes bytes2 : List ℕ) (text : List ℕ) : Type 0 where
+pub record IsPromisedDifference (written : Written) (source source2 : Source) (text : List ℕ) : Type 0 where
   pub d : Data
   pub d2 : Data
-  pub accepted : Accepted bytes d
-  pub accepted2 : Accepted bytes2 d2
+  pub accepted : Accepted source d
+  pub accepted2 : Accepted source2 d2
   pub cost : Rational
   pub bound : Rational
   pub cost2 : Rational

@@ -36,11 +36,11 @@ use Rattle.command_words.specs.declared.command.SolveMethod.{SolveMethod}
 use Rattle.model_maker.specs.MadeText.{made_text}
 use Rattle.solve_command.specs.declared.solve.Shown.{Shown as SolveShown}
 use Rattle.solve_command.specs.declared.solve.Shown.TheVariants.{Summary}
-use Rattle.osemosys_run.specs.Due.{bytes_at}
+use Rattle.osemosys_run.specs.Due.{bytes_at, source2_in, source_in}
 use Rattle.io_edges.specs.Files.{file_named}
 use Rattle.command_answers.specs.declared.status.Status.{Status}
 use Rattle.command_answers.specs.declared.status.Status.TheVariants.{Done, Infeasible, Unbounded, Memory}
-use Rattle.command_answers.specs.Accepted.{Accepted, most_bytes}
+use Rattle.command_answers.specs.Accepted.{Accepted, Source, most_bytes, plain}
 use Rattle.check_command.specs.Check.{TellsMultipliers, check_conditions, multiplier_bound, plan_cost}
 use Rattle.curve_command.specs.Limited.{limit_at, with_limit}
 use Rattle.emission_curve.specs.Ends.{IsStopped, point_end}
@@ -55,7 +55,7 @@ use Rattle.solve_command.specs.Shown.{shown_of}
 use Rattle.command_answers.specs.Limits.{IsWithinLimits}
 use Rattle.solve_command.specs.Solve.{ComesToEnd}
 use Rattle.solve_command.specs.Summary.{default_pivots, default_places}
-use Rattle.command_words.specs.Words.{Request, Check, Compare, Curve, Explain, Make, Mps, Page, Solve, SolveFrom, Span, Table, asked, names_of}
+use Rattle.command_words.specs.Words.{Question, Request, Check, Compare, Curve, Explain, Make, Mps, Page, Solve, SolveFrom, Span, Table, asked, names_of}
 use Rattle.solver_answers.specs.Answers.{Tells}
 use Rattle.solver_answers.specs.Told.{Breaks}
 
@@ -66,10 +66,10 @@ AreThere files [] (bytes ∷ contents) = ⊥
 AreThere files (name ∷ names) [] = ⊥
 AreThere files (name ∷ names) (bytes ∷ contents) = (file_named files name ≡ Some bytes) × (length bytes ≤ most_bytes) × AreThere files names contents
 
--- the text is accepted, and every row of the named equations over its data can be made
-pub record CanBeWritten (places : ℕ) (bytes : List ℕ) : Type 0 where
+-- the data file is accepted with its changes, and every row of the named equations over its data can be made
+pub record CanBeWritten (places : ℕ) (source : Source) : Type 0 where
   pub d : Data
-  pub accepted : Accepted bytes d
+  pub accepted : Accepted source d
   pub made : CanBeMade places d 0 (instances d)
 
 -- the multipliers prove their bound over the rows, and the cost of the plan is within the gap of it
@@ -79,13 +79,13 @@ AreInGap d rows plan (Some multipliers) gap =
     ((s : ℕ) × (y : RowName → ℤ) × AreMultipliersOver s y multipliers × Proves model_cost rows (all_variables d) s y)
     × Within (plan_cost d plan) (multiplier_bound rows multipliers) gap
 
--- The text of the data file is accepted, and every row of the named equations over its data can be made; the plan's file is in form and tells a feasible plan; multipliers, if there
+-- The data file is accepted with its changes, and every row of the named equations over its data can be made; the plan's file is in form and tells a feasible plan; multipliers, if there
 -- are any, are in form, prove their bound and keep the gap; and every number that is formed for the conditions fits.
-pub record CanBeAccepted (gap places : ℕ) (bytes plan_bytes : List ℕ) (multiplier_bytes : Option (List ℕ)) : Type 0 where
+pub record CanBeAccepted (gap places : ℕ) (source : Source) (plan_bytes : List ℕ) (multiplier_bytes : Option (List ℕ)) : Type 0 where
   pub d : Data
   pub plan : List (Var × Rational)
   pub multipliers : Option (List (RowName × Rational))
-  pub accepted : Accepted bytes d
+  pub accepted : Accepted source d
   pub made : CanBeMade places d 0 (instances d)
   pub plan_told : IsPlan d.sets (all_variables d) (records_of plan_bytes) plan
   pub multipliers_told : TellsMultipliers d multiplier_bytes multipliers
@@ -93,23 +93,23 @@ pub record CanBeAccepted (gap places : ℕ) (bytes plan_bytes : List ℕ) (multi
   pub in_gap : (rows : List Row) → AreRowsOf places d (instances d) rows → AreInGap d rows plan multipliers gap
   pub fit : (rows : List Row) → AreRowsOf places d (instances d) rows → first_wide (steps (check_conditions d rows plan multipliers gap)) ≡ None
 
--- the text is accepted, and every row of the named equations over its data can be made; the linear program is within the limits; and the exact method comes to an end
-pub record CanBeSolved (pivots places : ℕ) (shown : SolveShown) (bytes : List ℕ) : Type 0 where
+-- the data file is accepted with its changes, and every row of the named equations over its data can be made; the linear program is within the limits; and the exact method comes to an end
+pub record CanBeSolved (pivots places : ℕ) (shown : SolveShown) (source : Source) : Type 0 where
   pub d : Data
-  pub accepted : Accepted bytes d
+  pub accepted : Accepted source d
   pub made : CanBeMade places d 0 (instances d)
   pub within : (rows : List Row) → AreRowsOf places d (instances d) rows → IsWithinLimits rows (all_variables d)
   pub ends : (rows : List Row) → AreRowsOf places d (instances d) rows → ComesToEnd shown rows (method_end rows (all_variables d) pivots)
 
 -- so it is, and the file of values to start from breaks its form at no line
-pub record CanBeSolvedFrom (pivots places : ℕ) (shown : SolveShown) (bytes start_bytes : List ℕ) : Type 0 where
-  pub solved : CanBeSolved pivots places shown bytes
+pub record CanBeSolvedFrom (pivots places : ℕ) (shown : SolveShown) (source : Source) (start_bytes : List ℕ) : Type 0 where
+  pub solved : CanBeSolved pivots places shown source
   pub in_form : (rows : List Row) → AreRowsOf places solved.d (instances solved.d) rows → (number : ℕ) → ¬ (Tells solved.d.sets (all_variables solved.d) (length rows) start_bytes (Breaks number))
 
--- the text is accepted, and every row of the named equations over its data can be made; the linear program is within the limits; and nothing stops the method
-pub record CanBeExplained (pivots places : ℕ) (method : SolveMethod) (bytes : List ℕ) : Type 0 where
+-- the data file is accepted with its changes, and every row of the named equations over its data can be made; the linear program is within the limits; and nothing stops the method
+pub record CanBeExplained (pivots places : ℕ) (method : SolveMethod) (source : Source) : Type 0 where
   pub d : Data
-  pub accepted : Accepted bytes d
+  pub accepted : Accepted source d
   pub made : CanBeMade places d 0 (instances d)
   pub within : (rows : List Row) → AreRowsOf places d (instances d) rows → IsWithinLimits rows (all_variables d)
   pub never : (rows : List Row) → AreRowsOf places d (instances d) rows → NothingStops method rows (all_variables d) pivots
@@ -121,12 +121,12 @@ pub record CanBeTried (places : ℕ) (d : Data) (r e pivots : ℕ) (limit : ℤ)
   pub ends : (rows : List Row) → AreRowsOf places (with_limit d r e limit) (instances (with_limit d r e limit)) rows
       → (stop : TrialStop) → point_end rows (definers rows) (all_variables (with_limit d r e limit)) (limit_at r e) pivots ≢ IsStopped stop
 
--- the text is accepted, its data have the region and the emission, and each limit can be tried
-pub record CanBeDrawn (region emission : List ℕ) (limits : List ℤ) (pivots places : ℕ) (bytes : List ℕ) : Type 0 where
+-- the data file is accepted with its changes, its data have the region and the emission, and each limit can be tried
+pub record CanBeDrawn (region emission : List ℕ) (limits : List ℤ) (pivots places : ℕ) (source : Source) : Type 0 where
   pub d : Data
   pub r : ℕ
   pub e : ℕ
-  pub accepted : Accepted bytes d
+  pub accepted : Accepted source d
   pub region_is : index_of (members d.sets REGION) region ≡ Some r
   pub emission_is : index_of (members d.sets EMISSION) emission ≡ Some e
   pub each : AllByRecursion (CanBeTried places d r e pivots) limits
@@ -141,14 +141,14 @@ pub record NothingStopsSpan (rows : List Row) (vars : List Var) (var : Var) (sla
   pub never : (plan : List (Var × Rational)) (multipliers : List (RowName × Rational)) (made : ℕ) → method_end rows vars pivots ≡ HasOptimum plan multipliers made
       → (stop : Stop) → ¬ (Stops rows (definers rows) vars (slack_limit (bound_of rows multipliers) slack) var pivots (Stopped stop))
 
--- The text is accepted, its data have the region, the technology and the year, and every row of the named equations over them can be made; the linear program is within the limits; and
+-- The data file is accepted with its changes, its data have the region, the technology and the year, and every row of the named equations over them can be made; the linear program is within the limits; and
 -- nothing stops the work.
-pub record CanBeSpanned (region technology year : List ℕ) (slack pivots places : ℕ) (bytes : List ℕ) : Type 0 where
+pub record CanBeSpanned (region technology year : List ℕ) (slack pivots places : ℕ) (source : Source) : Type 0 where
   pub d : Data
   pub r : ℕ
   pub t : ℕ
   pub y : ℕ
-  pub accepted : Accepted bytes d
+  pub accepted : Accepted source d
   pub region_is : index_of (members d.sets REGION) region ≡ Some r
   pub technology_is : index_of (members d.sets TECHNOLOGY) technology ≡ Some t
   pub year_is : index_of (members d.sets YEAR) year ≡ Some y
@@ -156,35 +156,35 @@ pub record CanBeSpanned (region technology year : List ℕ) (slack pivots places
   pub within : (rows : List Row) → AreRowsOf places d (instances d) rows → IsWithinLimits rows (all_variables d)
   pub ends : (rows : List Row) → AreRowsOf places d (instances d) rows → NothingStopsSpan rows (all_variables d) (built r t y) slack pivots
 
--- The text of the data file is accepted, and every row of the named equations over its data can be made; the proof's file is in form and tells an optimum whose plan is feasible, and
+-- The data file is accepted with its changes, and every row of the named equations over its data can be made; the proof's file is in form and tells an optimum whose plan is feasible, and
 -- whose multipliers prove their bound and keep the gap; and every number that is formed for the conditions fits.
-pub record ProvesOptimum (gap places : ℕ) (bytes proof_bytes : List ℕ) : Type 0 where
+pub record ProvesOptimum (gap places : ℕ) (source : Source) (proof_bytes : List ℕ) : Type 0 where
   pub d : Data
   pub plan : List (Var × Rational)
   pub multipliers : List (RowName × Rational)
-  pub accepted : Accepted bytes d
+  pub accepted : Accepted source d
   pub made : CanBeMade places d 0 (instances d)
   pub told : IsProof d.sets (all_variables d) (instances d) (records_of proof_bytes) (Optimum plan multipliers)
   pub feasible : (q : ℕ) × (x : Var → ℤ) × AreValuesOver q x plan × Feasible places d q x
   pub in_gap : (rows : List Row) → AreRowsOf places d (instances d) rows → AreInGap d rows plan (Some multipliers) gap
   pub fit : (rows : List Row) → AreRowsOf places d (instances d) rows → first_wide (steps (check_conditions d rows plan (Some multipliers) gap)) ≡ None
 
--- Of these contents a request must come to an end. Of `make` of a file and of `warn` what is due says so, and of the others that are left out nothing is said.
-abbrev pub CanBeDone : Request → (contents : List (List ℕ)) → Type 0
-CanBeDone (Mps name places) contents = CanBeWritten places (bytes_at contents 0)
-CanBeDone (Check name plan multipliers gap places) contents = CanBeAccepted gap places (bytes_at contents 0) (bytes_at contents 1) (option_map (λ name. bytes_at contents 2) multipliers)
-CanBeDone (Solve name gap pivots places show method) contents = CanBeSolved pivots places (shown_of show) (bytes_at contents 0)
-CanBeDone (SolveFrom name start gap pivots places show) contents = CanBeSolvedFrom pivots places (shown_of show) (bytes_at contents 0) (bytes_at contents 1)
-CanBeDone (Explain name pivots places method) contents = CanBeExplained pivots places method (bytes_at contents 0)
-CanBeDone (Curve name region emission limits gap pivots places method) contents = CanBeDrawn region emission limits pivots places (bytes_at contents 0)
-CanBeDone (Span name region technology year slack gap pivots places method) contents = CanBeSpanned region technology year slack pivots places (bytes_at contents 0)
-CanBeDone (Make size MakeShow.Summary) contents = CanBeSolved default_pivots default_places Summary (made_text size)
-CanBeDone (Table name proof table exact gap places) contents =
-    (can : ProvesOptimum gap places (bytes_at contents 0) (bytes_at contents 1)) × (shown : Shown) × (shown_named can.d.second table ≡ Some shown)
-CanBeDone (Page name proof gap places) contents = ProvesOptimum gap places (bytes_at contents 0) (bytes_at contents 1)
-CanBeDone (Compare first first_proof second second_proof gap places show) contents =
-    ProvesOptimum gap places (bytes_at contents 0) (bytes_at contents 1) × ProvesOptimum gap places (bytes_at contents 2) (bytes_at contents 3)
-CanBeDone request contents = ⊥
+-- Of these data files with their changes, and of these contents, a question must come to an end. Of `make` of a file and of `warn` what is due says so, and of the others that are left out nothing is said.
+abbrev pub CanBeDone : Question → Source → Source → (contents : List (List ℕ)) → Type 0
+CanBeDone (Mps name places) source source2 contents = CanBeWritten places source
+CanBeDone (Check name plan multipliers gap places) source source2 contents = CanBeAccepted gap places source (bytes_at contents 1) (option_map (λ name. bytes_at contents 2) multipliers)
+CanBeDone (Solve name gap pivots places show method) source source2 contents = CanBeSolved pivots places (shown_of show) source
+CanBeDone (SolveFrom name start gap pivots places show) source source2 contents = CanBeSolvedFrom pivots places (shown_of show) source (bytes_at contents 1)
+CanBeDone (Explain name pivots places method) source source2 contents = CanBeExplained pivots places method source
+CanBeDone (Curve name region emission limits gap pivots places method) source source2 contents = CanBeDrawn region emission limits pivots places source
+CanBeDone (Span name region technology year slack gap pivots places method) source source2 contents = CanBeSpanned region technology year slack pivots places source
+CanBeDone (Make size MakeShow.Summary) source source2 contents = CanBeSolved default_pivots default_places Summary (plain (made_text size))
+CanBeDone (Table name proof table exact gap places) source source2 contents =
+    (can : ProvesOptimum gap places source (bytes_at contents 1)) × (shown : Shown) × (shown_named can.d.second table ≡ Some shown)
+CanBeDone (Page name proof gap places) source source2 contents = ProvesOptimum gap places source (bytes_at contents 1)
+CanBeDone (Compare first first_proof second second_proof gap places show) source source2 contents =
+    ProvesOptimum gap places source (bytes_at contents 1) × ProvesOptimum gap places source2 (bytes_at contents 3)
+CanBeDone question source source2 contents = ⊥
 
 -- a model is solved, has no plan, or has no bound
 abbrev pub IsEnded : Status → Type 0
@@ -194,16 +194,16 @@ IsEnded status = (status ≡ Done) ⊎ (status ≡ Infeasible) ⊎ (status ≡ U
 abbrev pub IsExplained : Status → Type 0
 IsExplained status = (status ≡ Done) ⊎ (status ≡ Infeasible)
 
--- the end of a request
-abbrev pub IsEndOf : Request → Status → Type 0
+-- the end of a question
+abbrev pub IsEndOf : Question → Status → Type 0
 IsEndOf (Solve name gap pivots places show method) status = IsEnded status
 IsEndOf (SolveFrom name start gap pivots places show) status = IsEnded status
 IsEndOf (Span name region technology year slack gap pivots places method) status = IsEnded status
 IsEndOf (Make size show) status = IsEnded status
 IsEndOf (Explain name pivots places method) status = IsExplained status
-IsEndOf request status = status ≡ Done
+IsEndOf question status = status ≡ Done
 
 -- where the files that the words ask for are there with such contents, the request comes to its end, unless memory ran out
 abbrev pub Completes : List (List ℕ) → List (List ℕ × List ℕ) → Status → Type 0
-Completes words files status = (request : Request) (contents : List (List ℕ)) → asked words ≡ Ok request → AreThere files (names_of request) contents → CanBeDone request contents
-    → IsEndOf request status ⊎ (status ≡ Memory)
+Completes words files status = (request : Request) (contents : List (List ℕ)) → asked words ≡ Ok request → AreThere files (names_of request) contents → CanBeDone request.question (source_in request contents) (source2_in request contents) contents
+    → IsEndOf request.question status ⊎ (status ≡ Memory)

@@ -1,6 +1,8 @@
 -- What is to be sent for a request: an answer, or the equations of a model, which are written as they are made.
 use Rattle.std.specs.Prelude.{◌≡◌, List, ℕ, ⊤}
 use Rattle.discount_factors.specs.Factors.{IsPlaces}
+use Rattle.command_answers.specs.Accepted.{Source}
+use Rattle.command_answers.specs.DueForText.{DueForText}
 use Rattle.command_answers.specs.declared.status.Status.{Status}
 use Rattle.command_answers.specs.declared.status.Status.TheVariants.{ReadFault, WriteFault, Memory}
 use Rattle.command_words.specs.Words.{Request, Mps}
@@ -45,7 +47,13 @@ CanBeSent (Equations model places) = IsPlaces places
 pub record IsForEquations (request : Request) : Type 0 where
   pub name : List ℕ
   pub places : ℕ
-  pub is : request ≡ Mps name places
+  pub is : request.question ≡ Mps name places
+
+-- the reply is the equations of the data of this file, with its changes and with written factors of so many decimal places, or the answer that refuses it; private functions alone cite this
+pub record IsForEquationsOf (source : Source) (places : ℕ) (reply : Reply) : Type 0 where
+  pub due : (status : Status) (text : List ℕ) → DueForReply reply status text → DueForText (λ rounded. DueForEquations places) source status text
+  pub own : (status : Status) (text : List ℕ) → DueForReply reply status text → IsOwn status
+  pub can_be_sent : CanBeSent reply
 
 -- what comes of the reply is due for the request over these contents
 pub record IsReplyTo (request : Request) (contents : List (List ℕ)) (reply : Reply) : Type 0 where

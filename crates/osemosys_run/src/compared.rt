@@ -4,14 +4,14 @@ ghost use Rattle.std.specs.Prelude.{◌≡◌, ◌≤◌, ◌∷◌, ◌++◌, [
 ghost use Rattle.std.specs.List.{AllByRecursion};
 ghost use Rattle.discount_factors.specs.Factors.{IsPlaces};
 ghost use Rattle.mathprog_data.specs.Pieces.{StandsFor};
-ghost use Rattle.command_answers.specs.Accepted.{most_bytes};
+ghost use Rattle.command_answers.specs.Accepted.{most_bytes, source_of};
 ghost use Rattle.compare_command.specs.Compared.{AreTablesFor, IsOf, Judged as Scenario};
 ghost use Rattle.page_tables.specs.PageTables.{HasValuesWithin};
 ghost use Rattle.plan_files.specs.Listed.{IsListedRow, name_of_row};
 ghost use Rattle.plan_tables.specs.declared.shown.NumberForm.TheVariants.{Decimals};
 ghost use Rattle.request_files.specs.Marked.{AllHold};
 ghost use Rattle.osemosys_run.specs.Compared.{DueForCompared};
-ghost use Rattle.osemosys_run.specs.Scenarios.{AcceptsOver, IsKept, IsUnkept, RefusesOver, written_by};
+ghost use Rattle.osemosys_run.specs.Scenarios.{AcceptsOver, IsKept, IsUnkept, RefusesOver, first_source, second_source, written_by};
 
 use check_command::accepted_proof;
 use command_answers::{AcceptedProof, Answer, accept_read, made_book};
@@ -22,15 +22,15 @@ use page_tables::{Source, proof_tables};
 use param_tables::ModelData;
 use plan_tables::NumberForm;
 use proof_files::Proof;
-use result_pages::last_segment;
+use result_pages::Title;
 use std::alloc::{AllocError, Global};
 
-/// What the words after `compare` say besides the proofs: the names of two data files, how many millionths of its bound the cost of a plan may
+/// What the words after `compare` say besides the proofs: what names the two data files on a page, with their changes, how many millionths of its bound the cost of a plan may
 /// be above it, how many decimal places written factors have, and whether a text or a page is written.
 #[derive(Clone, Copy)]
 pub struct CompareAsked<'a> {
-    pub first: &'a str,
-    pub second: &'a str,
+    pub first: Title<'a>,
+    pub second: Title<'a>,
     pub gap: u32,
     pub places: u8,
     pub show: CompareShow,
@@ -38,9 +38,9 @@ pub struct CompareAsked<'a> {
 
 /// A scenario as its files tell it: a reader that was fed the text of the data file, and the bytes of the proof.
 #[derive(Drop)]
-pub struct Pair {
+pub struct Pair<'a> {
     pub reader: PieceReader,
-    pub proof: Vec<u8>,
+    pub proof: &'a [u8],
 }
 
 /// A scenario whose proof `check` accepts.
@@ -61,16 +61,16 @@ struct Kept {
 pub fn answer_pairs(
     alloc: Global,
     asked: CompareAsked<'_>,
-    first: Pair,
-    second: Pair,
+    first: Pair<'_>,
+    second: Pair<'_>,
 ) -> Result<Answer, AllocError>
     requires first { (text : List ℕ) × StandsFor first.reader text × (length text ≤ most_bytes) }
     requires second { (text : List ℕ) × StandsFor second.reader text × (length text ≤ most_bytes) }
     requires places { IsPlaces asked.places }
-    ensures { (text text2 : List ℕ) → StandsFor first.reader text → length text ≤ most_bytes → StandsFor second.reader text2 → length text2 ≤ most_bytes
-        → IfOk result (λ answer. DueForCompared (written_by asked.entry) asked.entry.gap text first.proof.items text2 second.proof.items answer.status answer.text.items) }
+    ensures { (text text2 : List ℕ) → StandsFor first.entry.reader text → length text ≤ most_bytes → StandsFor second.entry.reader text2 → length text2 ≤ most_bytes
+        → IfOk result (λ answer. DueForCompared (written_by asked.entry) asked.entry.gap (first_source text asked.entry) first.entry.proof.now (second_source text2 asked.entry) second.entry.proof.now answer.status answer.text.items) }
 {
-    match judge(alloc, first, asked)? {
+    match judge(alloc, first, asked.first.changes, asked)? {
         Ok(one) => answer_second(alloc, asked, &one, second),
         Err(said) => refuse_scenario(alloc, Which::First, said),
     }
@@ -81,25 +81,25 @@ fn answer_second(
     alloc: Global,
     asked: CompareAsked<'_>,
     one: &Judged,
-    second: Pair,
+    second: Pair<'_>,
 ) -> Result<Answer, AllocError>
     requires first { (scenario : Scenario) × IsOf scenario one.now.model.facts.sets one.now.kept.accepted }
     requires second { (text : List ℕ) × StandsFor second.reader text × (length text ≤ most_bytes) }
     requires places { IsPlaces asked.places }
-    ensures { (text proof text2 : List ℕ) → IsKept asked.entry.show asked.entry.places asked.entry.gap text proof one.now.model.facts.sets one.now.kept.accepted one.now.kept.tables.items
-        → StandsFor second.reader text2 → length text2 ≤ most_bytes
-        → IfOk result (λ answer. DueForCompared (written_by asked.entry) asked.entry.gap text proof text2 second.proof.items answer.status answer.text.items) }
+    ensures { (text proof text2 : List ℕ) → IsKept asked.entry.show asked.entry.places asked.entry.gap (first_source text asked.entry) proof one.now.model.facts.sets one.now.kept.accepted one.now.kept.tables.items
+        → StandsFor second.entry.reader text2 → length text2 ≤ most_bytes
+        → IfOk result (λ answer. DueForCompared (written_by asked.entry) asked.entry.gap (first_source text asked.entry) proof (second_source text2 asked.entry) second.entry.proof.now answer.status answer.text.items) }
 {
-    match judge(alloc, second, asked)? {
+    match judge(alloc, second, asked.second.changes, asked)? {
         Ok(two) => {
             let first = Proved {
-                file: last_segment(asked.first.as_bytes()),
+                title: asked.first,
                 sets: one.model.sets(),
                 accepted: &one.kept.accepted,
                 tables: one.kept.tables.as_slice(),
             };
             let second = Proved {
-                file: last_segment(asked.second.as_bytes()),
+                title: asked.second,
                 sets: two.model.sets(),
                 accepted: &two.kept.accepted,
                 tables: two.kept.tables.as_slice(),
@@ -113,18 +113,19 @@ fn answer_second(
 // What `check` says of a scenario: the data and the proof where it accepts it, else its answer.
 fn judge(
     alloc: Global,
-    pair: Pair,
+    pair: Pair<'_>,
+    changes: Option<&[u8]>,
     asked: CompareAsked<'_>,
 ) -> Result<Result<Judged, Answer>, AllocError>
     requires stands { (text : List ℕ) × StandsFor pair.reader text }
     requires places { IsPlaces asked.places }
-    ensures { (text : List ℕ) → StandsFor pair.reader text → length text ≤ most_bytes → IfOk result (λ verdict. MatchResult verdict
-        (λ judged. IsKept asked.entry.show asked.entry.places asked.entry.gap text pair.proof.items judged.model.facts.sets judged.kept.accepted judged.kept.tables.items)
-        (λ said. IsUnkept asked.entry.places asked.entry.gap text pair.proof.items said.status said.text.items)) }
+    ensures { (text : List ℕ) → StandsFor pair.entry.reader text → length text ≤ most_bytes → IfOk result (λ verdict. MatchResult verdict
+        (λ judged. IsKept asked.entry.show asked.entry.places asked.entry.gap (source_of text changes.entry) pair.entry.proof.now judged.model.facts.sets judged.kept.accepted judged.kept.tables.items)
+        (λ said. IsUnkept asked.entry.places asked.entry.gap (source_of text changes.entry) pair.entry.proof.now said.status said.text.items)) }
 {
     let Pair { reader, proof } = pair;
-    match accept_read(alloc, reader)? {
-        Ok(model) => match judge_over(alloc, &model, proof.as_slice(), asked)? {
+    match accept_read(alloc, reader, changes)? {
+        Ok(model) => match judge_over(alloc, &model, proof, asked)? {
             Ok(kept) => Ok(Ok(Judged { model, kept })),
             Err(said) => Ok(Err(said)),
         },
@@ -191,20 +192,4 @@ pub fn last_reader(fed: &mut Vec<PieceReader>) -> PieceReader
         unreachable!()
     };
     reader
-}
-
-/// The last of the readers with the last of the proofs, of which there is one each.
-pub fn last_pair(fed: &mut Vec<PieceReader>, held: &mut Vec<Vec<u8>>) -> Pair
-    requires fed { (texts : List (List ℕ)) × (text : List ℕ) × AllHold StandsFor fed.old.items (texts ++ text ∷ []) }
-    requires held { (proofs : List (List ℕ)) × (proof : List ℕ) × (map (λ bytes. bytes.items) held.old.items ≡ proofs ++ proof ∷ []) }
-    ensures fed { (texts : List (List ℕ)) (text : List ℕ) → AllHold StandsFor fed.old.items (texts ++ text ∷ [])
-        → AllHold StandsFor fed.new.items texts × StandsFor result.reader text }
-    ensures held { (proofs : List (List ℕ)) (proof : List ℕ) → map (λ bytes. bytes.items) held.old.items ≡ proofs ++ proof ∷ []
-        → (map (λ bytes. bytes.items) held.new.items ≡ proofs) × (result.proof.items ≡ proof) }
-{
-    let reader = last_reader(fed);
-    let Some(proof) = held.pop() else {
-        unreachable!()
-    };
-    Pair { reader, proof }
 }

@@ -2,7 +2,7 @@
 ghost use Rattle.std.specs.Prelude.{◌≡◌, ◌≤◌, ◌++◌, List, ℕ, length, IfOk};
 ghost use Rattle.osemosys_run.specs.Due.{DueForMake};
 ghost use Rattle.command_answers.specs.DueForText.{DueForText};
-ghost use Rattle.command_answers.specs.Accepted.{most_bytes};
+ghost use Rattle.command_answers.specs.Accepted.{most_bytes, plain};
 ghost use Rattle.solve_command.specs.Summary.{DueForSummary, default_places, made_line};
 
 use call_stages::Watcher;
@@ -44,7 +44,7 @@ fn summarize(
     watcher: &mut dyn Watcher,
 ) -> Result<Answer, AllocError>
     requires { length made.items ≤ most_bytes }
-    ensures { IfOk result (λ answer. (rest : List ℕ) × DueForText (DueForSummary default_places) made.items answer.status rest
+    ensures { IfOk result (λ answer. (rest : List ℕ) × DueForText (DueForSummary default_places) (plain made.items) answer.status rest
         × (answer.text.items ≡ made_line size ++ rest)) }
 {
     let mut text = made_line(alloc, size)?;
@@ -61,7 +61,7 @@ fn answer_made(
     watcher: &mut dyn Watcher,
 ) -> Result<Answer, AllocError>
     requires { length made.items ≤ most_bytes }
-    ensures { IfOk result (λ answer. DueForText (DueForSummary default_places) made.items answer.status answer.text.items) }
+    ensures { IfOk result (λ answer. DueForText (DueForSummary default_places) (plain made.items) answer.status answer.text.items) }
 {
     match accept(alloc, made)? {
         Ok(model) => answer_summary(alloc, &model, DEFAULT_PLACES, watcher),

@@ -5,7 +5,7 @@ ghost use Rattle.check_command.specs.CheckProof.{DueForProofFile};
 ghost use Rattle.command_answers.specs.CheckedPlans.{IsBookOf, IsListedBook};
 ghost use Rattle.command_answers.specs.ShownProofs.{DueOverRows};
 ghost use Rattle.page_command.specs.Pages.{DueForPage, ShowsPage};
-ghost use Rattle.result_pages.specs.FileNames.{last_segment};
+ghost use Rattle.result_pages.specs.Pages.{title_of};
 
 use check_command::accepted_proof;
 use command_answers::{Answer, made_book};
@@ -13,14 +13,14 @@ use page_command::{Sheet, answer_page};
 use page_tables::Source;
 use param_tables::ModelData;
 use plan_tables::NumberForm;
-use result_pages::last_segment;
+use result_pages::Title;
 use row_book::RowBook;
 use std::alloc::{AllocError, Global};
 
-/// What the words after `page` say: the path of the data file, and how many millionths of the bound the plan's cost may be above it.
+/// What the words after `page` say: what names the data file, with its changes, and how many millionths of the bound the plan's cost may be above it.
 #[derive(Clone, Copy)]
 pub struct PageAsked<'a> {
-    pub path: &'a str,
+    pub title: Title<'a>,
     pub gap: u32,
 }
 
@@ -35,7 +35,7 @@ pub fn answer_paged(
 ) -> Result<Answer, AllocError>
     requires { IsPlaces places }
     ensures { IfOk result (λ answer.
-        DueForPage (last_segment asked.entry.path.now) model.now.rounded places (λ rows. DueForProofFile places model.now.facts rows proof.now asked.entry.gap) proof.now model.now.facts answer.status answer.text.items) }
+        DueForPage (title_of asked.entry.title) model.now.rounded places (λ rows. DueForProofFile places model.now.facts rows proof.now asked.entry.gap) proof.now model.now.facts answer.status answer.text.items) }
 {
     match made_book(alloc, model, places)? {
         Ok(book) => answer_over(alloc, model, places, &book, proof, asked),
@@ -55,7 +55,7 @@ fn answer_over(
     requires places { IsPlaces places }
     requires listed { IsListedBook model.now.facts.sets book.now.rows book.now.vars }
     requires of_data { IsBookOf places model.now.facts book.now.rows book.now.vars }
-    ensures { IfOk result (λ answer. DueOverRows (DueForProofFile places model.now.facts book.now.rows proof.now asked.entry.gap) proof.now (ShowsPage (last_segment asked.entry.path.now) model.now.rounded places model.now.facts book.now.rows) model.now.facts answer.status answer.text.items) }
+    ensures { IfOk result (λ answer. DueOverRows (DueForProofFile places model.now.facts book.now.rows proof.now asked.entry.gap) proof.now (ShowsPage (title_of asked.entry.title) model.now.rounded places model.now.facts book.now.rows) model.now.facts answer.status answer.text.items) }
 {
     match accepted_proof(alloc, book, model.sets(), proof, asked.gap)? {
         Ok(accepted) => {
@@ -65,8 +65,8 @@ fn answer_over(
                 places,
                 form: NumberForm::Decimals,
             };
-            let file = last_segment(asked.path.as_bytes());
-            let sheet = Sheet { file, source };
+            let title = asked.title;
+            let sheet = Sheet { title, source };
             answer_page(alloc, sheet, &accepted)
         }
         Err(answer) => Ok(answer),

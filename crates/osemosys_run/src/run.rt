@@ -26,11 +26,12 @@ ghost use Rattle.row_core.specs.declared.RowName.{RowName};
 ghost use Rattle.row_core.specs.declared.Var.{Var};
 ghost use Rattle.command_answers.specs.declared.status.ReadStop.{ReadStop};
 ghost use Rattle.command_answers.specs.declared.status.Status.{Status};
-ghost use Rattle.command_answers.specs.Accepted.{Accepted};
+ghost use Rattle.command_answers.specs.Accepted.{Accepted, Source};
 ghost use Rattle.command_answers.specs.NotAccepted.{DueWhereNotAccepted};
 ghost use Rattle.command_answers.specs.SolvedPlans.{IsNearOptimum};
 ghost use Rattle.check_command.specs.CheckProof.{DueForProof, DueForProofFile};
-ghost use Rattle.command_words.specs.Commands.{request_of};
+ghost use Rattle.command_words.specs.Commands.{question_of, request_of};
+ghost use Rattle.command_words.specs.Ranges.{IsInRange};
 ghost use Rattle.command_words.specs.WordParts.{HasSpelledParts, Part};
 ghost use Rattle.command_words.specs.Words.{asked};
 ghost use Rattle.compare_command.specs.Compared.{Written};
@@ -48,7 +49,6 @@ ghost use Rattle.osemosys_run.specs.Complete.{Completes};
 ghost use Rattle.osemosys_run.specs.Due.{AskForEquations, Due};
 ghost use Rattle.osemosys_run.specs.Mps.{WritesEquations};
 ghost use Rattle.osemosys_run.specs.Promised.{IsPromisedTable};
-ghost use Rattle.osemosys_run.specs.Requests.{IsInRange};
 ghost use Rattle.osemosys_run.specs.Warned.{IsWarned, findings_over};
 ghost use Rattle.osemosys_run.specs.Causes.{Caused, IsReplyFor};
 ghost use Rattle.osemosys_run.specs.ReadToEnd.{IsReadToEnd, ReadsWhole};
@@ -67,7 +67,7 @@ use crate::reply::Reply;
 use crate::warned::warned_laws;
 use call_stages::{Stage, Unwatched, Watcher};
 use command_answers::{Status, acceptance_laws, refuse_words};
-use command_words::{Command, read_command, spelled_parts};
+use command_words::{Request, read_command, spelled_parts};
 use io_edges::{Shelf, Sink};
 use mathprog_data::verdict_laws;
 use plan_quantities::laws::quantity_laws;
@@ -167,19 +167,19 @@ pub fn osemosys<S: Shelf, K: Sink>(
     ensures not_both { (text : List ℕ) (blocks : Blocks) (number : ℕ) (at : Mark) → Says text blocks → FaultAt text number at → ⊥ }
     ensures reading_or_fault { (text : List ℕ) → ((blocks : Blocks) × Says text blocks) ⊎ ((number : ℕ) × (at : Mark) × FaultAt text number at) }
 
-    // A text has the data of one model, or one line that refuses it, and never both. The data are complete: their sets are by the rules,
+    // A data file with its changes has the data of one model, or one line that refuses it, and never both. The data are complete: their sets are by the rules,
     // and each used parameter has a value in its range at each of its indices.
-    ensures one_data { (text : List ℕ) (d e : Data) → Accepted text d → Accepted text e → d ≡ e }
-    ensures complete_data { (text : List ℕ) (d : Data) → Accepted text d → AreComplete d }
-    ensures one_line { (text : List ℕ) (status other : Status) (line another : List ℕ) →
-        DueWhereNotAccepted text status line → DueWhereNotAccepted text other another → line ≡ another }
-    ensures not_accepted { (text : List ℕ) (d : Data) (status : Status) (line : List ℕ) → Accepted text d → DueWhereNotAccepted text status line → ⊥ }
+    ensures one_data { (source : Source) (d e : Data) → Accepted source d → Accepted source e → d ≡ e }
+    ensures complete_data { (source : Source) (d : Data) → Accepted source d → AreComplete d }
+    ensures one_line { (source : Source) (status other : Status) (line another : List ℕ) →
+        DueWhereNotAccepted source status line → DueWhereNotAccepted source other another → line ≡ another }
+    ensures not_accepted { (source : Source) (d : Data) (status : Status) (line : List ℕ) → Accepted source d → DueWhereNotAccepted source status line → ⊥ }
 
     // The text that `mps` writes of accepted data is a linear program of the plans: it reads, as free MPS, as one whose columns are the
     // variables that exist and whose rows say what the equations say, which the values of a plan meet exactly where the plan is
     // feasible, and which costs what the plan costs.
-    ensures mps_means { (places : ℕ) (file text : List ℕ) (d : Data) →
-        Accepted file d → WritesEquations places d text →
+    ensures mps_means { (places : ℕ) (source : Source) (text : List ℕ) (d : Data) →
+        Accepted source d → WritesEquations places d text →
         (program : Program) × (program_of text ≡ Some program) × IsProgramOf places d program }
 
     // The parts that the words after a command say are those that are spelled so.
@@ -203,9 +203,9 @@ pub fn osemosys<S: Shelf, K: Sink>(
         → IsPromisedTable places d bytes table (form_of exact) text }
 
     // Where `compare` ends with status 0, its line `difference` keeps what it promises of all bounds and of the least costs of both data.
-    ensures compared { (written : Written) (gap : ℕ) (bytes proof_bytes bytes2 proof_bytes2 text : List ℕ)
-        → DueForCompared written gap bytes proof_bytes bytes2 proof_bytes2 Status.Done text
-        → IsPromisedDifference written bytes bytes2 text }
+    ensures compared { (written : Written) (gap : ℕ) (source : Source) (proof_bytes : List ℕ) (source2 : Source) (proof_bytes2 text : List ℕ)
+        → DueForCompared written gap source proof_bytes source2 proof_bytes2 Status.Done text
+        → IsPromisedDifference written source source2 text }
 
     // Where one of the lines of `warn` ends in `: no plan`, whatever the names of members are, or is of a rule whose lines do, no plan exists.
     ensures no_plan { (rounded : ℕ) (d : Data) (status : Status) (text : List ℕ) → IsWarned rounded d status text → (f : Finding) → Contains (findings_over rounded d) f
@@ -214,8 +214,8 @@ pub fn osemosys<S: Shelf, K: Sink>(
 
     // What `solve` writes to prove its end is accepted by `check`, over the same data file and with the same gap and decimal places, whatever its
     // guesses begin from.
-    ensures proofs { (places gap pivots : ℕ) (method : SolveMethod) (rounded : ℕ) (bytes : List ℕ) (d : Data) (end status : Status) (proof text : List ℕ)
-        → Accepted bytes d → ProvesEnd places gap pivots method rounded d end proof → DueForProof places proof gap d status text → AcceptsEnd end status text }
+    ensures proofs { (places gap pivots : ℕ) (method : SolveMethod) (rounded : ℕ) (source : Source) (d : Data) (end status : Status) (proof text : List ℕ)
+        → Accepted source d → ProvesEnd places gap pivots method rounded d end proof → DueForProof places proof gap d status text → AcceptsEnd end status text }
 
     // A failed read is answered only where the shelf counted a fault, and a failed write only where the sink did.
     ensures failed_read { (file : ℕ) → result ≡ Status.ReadFault (ReadStop.Failed file) → Rose (S.faults shelf.old) (S.faults shelf.new) }
@@ -274,7 +274,7 @@ fn perform<S: Shelf>(
     ensures same { IsSameShelf (seen S.Shelf shelf.old) (seen S.Shelf shelf.new) }
 {
     match read_command(alloc, words)? {
-        Ok(command) => perform_command(alloc, command, shelf, watcher),
+        Ok(request) => perform_request(alloc, request, shelf, watcher),
         Err(fault) => {
             let answer = refuse_words(alloc, fault)?;
             Ok(Reply::Told(answer))
@@ -282,20 +282,20 @@ fn perform<S: Shelf>(
     }
 }
 
-// What is to be sent for a command: its files are read, and then it is answered.
-fn perform_command<S: Shelf>(
+// What is to be sent for a request: its files are read, and then it is answered.
+fn perform_request<S: Shelf>(
     alloc: Global,
-    command: Command<'_>,
+    request: Request<'_>,
     shelf: &mut S,
     watcher: &mut dyn Watcher,
 ) -> Result<Reply, AllocError>
-    requires { IsInRange (request_of command) }
-    ensures reply { IfOk result (IsReplyFor (Ok (request_of command.entry)) (seen S.Shelf shelf.old) (seen S.Shelf shelf.new)) }
+    requires { IsInRange (question_of request.command) }
+    ensures reply { IfOk result (IsReplyFor (Ok (request_of request.entry)) (seen S.Shelf shelf.old) (seen S.Shelf shelf.new)) }
     ensures same { IsSameShelf (seen S.Shelf shelf.old) (seen S.Shelf shelf.new) }
 {
-    let files = files_of(alloc, &command)?;
+    let files = files_of(alloc, &request)?;
     match read_files(alloc, &files, shelf)? {
-        Ok(found) => answer(alloc, command, found, watcher),
+        Ok(found) => answer(alloc, request, found, watcher),
         Err(stopped) => {
             let answer = refuse_file(alloc, stopped)?;
             Ok(Reply::Told(answer))

@@ -7,7 +7,7 @@ use Rattle.proof_files.specs.declared.proof.Proof.{Proof}
 use Rattle.proof_files.specs.declared.proof.Proof.TheVariants.{Optimum, Refutation, Descent}
 use Rattle.plan_tables.specs.declared.shown.NumberForm.TheVariants.{Decimals}
 use Rattle.page_tables.specs.PageTables.{proof_tables}
-use Rattle.result_pages.specs.Pages.{Part, plan_page}
+use Rattle.result_pages.specs.Pages.{Part, Title, plan_page}
 use Rattle.command_answers.specs.ShownProofs.{DueForShown}
 use Rattle.command_answers.specs.declared.status.Status.{Status}
 use Rattle.command_answers.specs.declared.status.Status.TheVariants.{Done, Infeasible, Unbounded}
@@ -27,13 +27,14 @@ abbrev pub page_said : List ℕ → ℕ → ℕ → List ℕ
 page_said said rounded places = said ++ count_line (codes "rounded ") rounded ++ count_line (codes "places ") places
 
 -- what the page shows of a proof over rows of the data, of which `check` says this
-abbrev pub page_part : List ℕ → ℕ → ℕ → Data → List Row → List ℕ → Proof → Part
-page_part name rounded places d rows said proof = record { name = name; said = page_said said rounded places; tables = proof_tables Decimals places d rows proof }
+abbrev pub page_part : Title → ℕ → ℕ → Data → List Row → List ℕ → Proof → Part
+page_part title rounded places d rows said proof =
+    record { title = title; said = page_said said rounded places; tables = proof_tables Decimals places d rows proof }
 
-abbrev pub ShowsPage : List ℕ → ℕ → ℕ → Data → List Row → List ℕ → Proof → Status → List ℕ → Type 0
-ShowsPage name rounded places d rows said proof status text = (status ≡ status_of proof) × (text ≡ plan_page (page_part name rounded places d rows said proof))
+abbrev pub ShowsPage : Title → ℕ → ℕ → Data → List Row → List ℕ → Proof → Status → List ℕ → Type 0
+ShowsPage title rounded places d rows said proof status text = (status ≡ status_of proof) × (text ≡ plan_page (page_part title rounded places d rows said proof))
 
--- What is due over these data of a file of this name, of which so many numbers are rounded, with written factors of so many decimal places, where `Checked` has what
+-- What is due over these data of a file of this name and with these changes, of which so many numbers are rounded, with written factors of so many decimal places, where `Checked` has what
 -- `check` is due to say of the proof over rows of the data, for the bytes of its file.
-abbrev pub DueForPage : List ℕ → ℕ → ℕ → (List Row → Status → List ℕ → Type 0) → List ℕ → Data → Status → List ℕ → Type 0
-DueForPage name rounded places Checked bytes d = DueForShown places Checked bytes (λ rows. ShowsPage name rounded places d rows) d
+abbrev pub DueForPage : Title → ℕ → ℕ → (List Row → Status → List ℕ → Type 0) → List ℕ → Data → Status → List ℕ → Type 0
+DueForPage title rounded places Checked bytes d = DueForShown places Checked bytes (λ rows. ShowsPage title rounded places d rows) d

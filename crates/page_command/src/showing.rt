@@ -5,20 +5,21 @@ ghost use Rattle.discount_factors.specs.Factors.{IsPlaces};
 ghost use Rattle.plan_files.specs.Listed.{IsListedRow, name_of_row};
 ghost use Rattle.page_command.specs.Pages.{ShowsPage, count_line, page_said, status_of};
 ghost use Rattle.page_tables.specs.PageTables.{HasValuesWithin};
+ghost use Rattle.result_pages.specs.Pages.{title_of};
 ghost use Rattle.plan_tables.specs.declared.shown.NumberForm.TheVariants.{Decimals};
 
 use command_answers::{AcceptedProof, Answer, Status};
 use itoa::Buffer;
 use page_tables::{Source, proof_tables};
 use proof_files::Proof;
-use result_pages::{PagePart, plan_page};
+use result_pages::{PagePart, Title, plan_page};
 use std::alloc::{AllocError, Global};
 
 /// What a page is made of besides the proof.
 #[derive(Clone, Copy)]
 pub struct Sheet<'a> {
-    /// The name of the data file, without its folders.
-    pub file: &'a [u8],
+    /// The data file.
+    pub title: Title<'a>,
     /// The data and the rows, with numbers as decimals.
     pub source: Source<'a>,
 }
@@ -35,7 +36,7 @@ pub fn answer_page(
     requires places { IsPlaces sheet.source.places }
     requires listed { AllByRecursion (IsListedRow sheet.source.model.now.facts.sets) (map name_of_row sheet.source.rows.now) }
     requires within { HasValuesWithin sheet.source.model.now.facts.sets accepted.now.proof }
-    ensures { IfOk result (λ answer. ShowsPage sheet.entry.file.now sheet.entry.source.model.now.rounded sheet.entry.source.places sheet.entry.source.model.now.facts sheet.entry.source.rows.now
+    ensures { IfOk result (λ answer. ShowsPage (title_of sheet.entry.title) sheet.entry.source.model.now.rounded sheet.entry.source.places sheet.entry.source.model.now.facts sheet.entry.source.rows.now
         accepted.now.said.items accepted.now.proof answer.status answer.text.items) }
 {
     let source = sheet.source;
@@ -43,7 +44,7 @@ pub fn answer_page(
     let said = page_said(alloc, &accepted.said, rounded, source.places)?;
     let tables = proof_tables(alloc, source, &accepted.proof)?;
     let part = PagePart {
-        name: sheet.file,
+        title: sheet.title,
         said: &said,
         tables: &tables,
     };

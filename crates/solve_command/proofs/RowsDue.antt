@@ -8,7 +8,7 @@ module _ (places : ℕ) (d : Data) (rows : List Row) (wanted : Wanted) (rounded 
   found-due Rounded (inl plan) = inl plan
   found-due Rounded (inr none) = inr (inl none)
 
-  pub rows-due : DueForRows places d rows wanted rounded status text → PassesLimits rows (all_variables d) status text ⊎ DueForMethod places d rows wanted rounded status text
+  pub rows-due : DueForRows places d rows wanted rounded status text → PassesLimits wanted.method wanted.pivots rows (all_variables d) status text ⊎ DueForMethod places d rows wanted rounded status text
   rows-due (inl found) = inr (found-due wanted.method found)
   rows-due (inr (inl large)) = inl large
   rows-due (inr (inr due)) = inr due.1

@@ -180,10 +180,10 @@ DueBy Rounded places d rows wanted rounded status text =
 abbrev pub DueForMethod : ℕ → Data → List Row → Wanted → ℕ → Status → List ℕ → Type 0
 DueForMethod places d rows wanted rounded status text = DueBy wanted.method places d rows wanted rounded status text
 
--- of any linear program: that it is too large, or the same where it isn't
+-- of any linear program: what is told with this method where it is too large, or the same where it isn't
 abbrev pub DueForSized : ℕ → Data → List Row → Wanted → ℕ → Status → List ℕ → Type 0
 DueForSized places d rows wanted rounded status text =
-    PassesLimits rows (all_variables d) status text ⊎ (IsWithinLimits rows (all_variables d) × DueForMethod places d rows wanted rounded status text)
+    PassesLimits wanted.method wanted.pivots rows (all_variables d) status text ⊎ (IsWithinLimits rows (all_variables d) × DueForMethod places d rows wanted rounded status text)
 
 -- with the rounded method what guesses of the rows find, however large the linear program is
 abbrev pub Finds : SolveMethod → ℕ → Data → List Row → Wanted → ℕ → Status → List ℕ → Type 0

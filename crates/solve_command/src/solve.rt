@@ -152,7 +152,7 @@ pub fn answer_sized(
     ensures { (d : Data) → sets.now ≡ d.sets → IsBookOf places d book.now.rows book.now.vars
         → IfOk result (λ answer. DueForSized places d book.now.rows wanted rounded answer.status answer.text.items) }
 {
-    match refuse_large(alloc, book)? {
+    match refuse_large(alloc, book, wanted.method, u64::from(wanted.pivots))? {
         Some(answer) => Ok(answer),
         None => answer_eliminated(alloc, book, sets, places, wanted, rounded, watcher),
     }

@@ -21,7 +21,7 @@ pub use Rattle.row_core.specs.Plans.{value_in}
 pub use Rattle.simplex_core.specs.declared.stops.Stop.TheVariants.{Budget, Trial, Width}
 pub use Rattle.span_command.specs.NearBest.{AreNearBest, HasNoHighEnd, IsHighEnd, IsLowEnd, IsNearHighEnd, IsNearLowEnd, NearBest}
 pub use Rattle.span_command.specs.Outcomes.{IsToldSpan, IsToldStop, TellsFound, TellsNear, TellsSolution, span_lines}
-pub use Rattle.span_command.specs.Span.{DueBy, DueForEnd, DueForFound, DueForMethod, DueForRows, Finds, HasLeastCost, built}
+pub use Rattle.span_command.specs.Span.{DueBy, DueForEnd, DueForFound, DueForMethod, DueForRows, Finds, HasLeastCost, built, gaps_of}
 pub use Rattle.span_command.specs.SpanTexts.{bounded_text, chosen_table, head_text, limited_line, limited_place, rising_text, rounded_text}
 pub use Rattle.span_command.specs.declared.wanted.Wanted.{Wanted}
 pub use Rattle.span_finder.specs.Slacks.{slack_formed, slack_limit}

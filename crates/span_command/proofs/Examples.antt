@@ -1,6 +1,7 @@
 -- Texts and lines, computed.
-use Rattle.span_command.proofs.Common.{◌≡◌, ℕ, List, pos, negsuc, [], codes, refl, arith, ◌<ℤ◌, false, Rational, lowest, pair, whole, Data, no_members, Place, Trial, Width, span_name, Var, IsNearHighEnd, IsNearLowEnd, built, bounded_text, head_text, limited_line, limited_place, rising_text, rounded_text}
+use Rattle.span_command.proofs.Common.{◌≡◌, ℕ, List, pos, negsuc, [], ◌∷◌, codes, refl, arith, ◌<ℤ◌, false, Rational, lowest, pair, whole, Data, no_members, Place, Trial, Width, span_name, Var, IsNearHighEnd, IsNearLowEnd, built, bounded_text, gaps_of, head_text, limited_line, limited_place, rising_text, rounded_text}
 use Rattle.std.proofs.lemmas.Int.{ints}
+use Rattle.std.specs.Prelude.{None, Some, map}
 use Rattle.exact_num.specs.Gcd.{gcd_of, gcd_within}
 use Rattle.scaled_decimals.specs.PrintedFraction.{fraction_text}
 use Rattle.scaled_decimals.specs.PrintedPlaces.{millionths, millionths_text}
@@ -46,17 +47,23 @@ not_another_trial = refl
 
 -- ---- by the rounded method
 
--- a cost a little above a bound of 80, a limit above the bound, and ends that are multiples of a tenth
-nearly : rounded_text no_members (lowest (pos 801) (pos 10)) (whole (pos 80)) (whole (pos 88)) (lowest (pos 42) (pos 5)) (lowest (pos 34) (pos 3)) [] []
-    ≡ codes "status solved\ncost 801/10 80.100000\nbound 80 80.000000\nlimit 88 88.000000\nlow 42/5 8.400000\nhigh 34/3 11.333333\ntable Low\ntable High\nend\n"
+-- a cost a little above a bound of 80, by a gap of a thousandth, a limit above the bound, and ends that are multiples of a tenth
+nearly : rounded_text no_members (lowest (pos 801) (pos 10)) (whole (pos 80)) 1000 (whole (pos 88)) (lowest (pos 42) (pos 5)) (lowest (pos 34) (pos 3)) [] []
+    ≡ codes "status solved\ncost 801/10 80.100000\nbound 80 80.000000\ngap 1000\nlimit 88 88.000000\nlow 42/5 8.400000\nhigh 34/3 11.333333\ntable Low\ntable High\nend\n"
 unfolding lowest gcd_of gcd_within fraction_text millionths_text millionths digits
 nearly = refl
 
--- the bound isn't left out
-not_without_bound : bytes_eq (rounded_text no_members (whole (pos 80)) (whole (pos 80)) (whole (pos 88)) (whole (pos 8)) (whole (pos 11)) [] [])
+-- the bound and the gap aren't left out
+not_without_bound : bytes_eq (rounded_text no_members (whole (pos 80)) (whole (pos 80)) 10 (whole (pos 88)) (whole (pos 8)) (whole (pos 11)) [] [])
     (codes "status solved\ncost 80 80.000000\nlimit 88 88.000000\nlow 8 8.000000\nhigh 11 11.000000\ntable Low\ntable High\nend\n") ≡ false
 unfolding lowest gcd_of gcd_within fraction_text millionths_text millionths digits
 not_without_bound = refl
+
+-- ---- gaps that are tried
+
+-- the one that is given, else a hundred-thousandth, a ten-thousandth and a thousandth
+gaps_tried : map gaps_of (Some 7 ∷ None ∷ []) ≡ (7 ∷ []) ∷ (10 ∷ 100 ∷ 1000 ∷ []) ∷ []
+gaps_tried = refl
 
 -- ---- ends by the rounded method
 

@@ -90,18 +90,18 @@ TellsSolution sets rows vars var wanted rounded places (found.Unbounded plan dir
 -- ---- by the rounded method
 
 -- the text of a span of it
-abbrev pub near_text : SetLists → Rational → Rational → Rational → RoundedSpan → List ℕ
-near_text sets cost bound limit span = rounded_text sets cost bound limit (value_of span.low) (value_of span.high) span.low_plan span.high_plan
+abbrev pub near_text : SetLists → Rational → Rational → ℕ → Rational → RoundedSpan → List ℕ
+near_text sets cost bound gap limit span = rounded_text sets cost bound gap limit (value_of span.low) (value_of span.high) span.low_plan span.high_plan
 
 -- a span within the slack of a bound is told
-pub record IsToldNearly (sets : SetLists) (rows : List Row) (vars : List Var) (cost bound : Rational) (var : Var) (wanted : Wanted) (status : Status) (text : List ℕ) : Type 0 where
+pub record IsToldNearly (sets : SetLists) (rows : List Row) (vars : List Var) (cost bound : Rational) (var : Var) (wanted : Wanted) (gap : ℕ) (status : Status) (text : List ℕ) : Type 0 where
   pub span : RoundedSpan
-  pub worth : IsRoundedSpan rows vars (slack_limit bound wanted.slack) var wanted.gap span
+  pub worth : IsRoundedSpan rows vars (slack_limit bound wanted.slack) var gap span
   pub status_is : status ≡ Done
-  pub text_is : text ≡ near_text sets cost bound (slack_limit bound wanted.slack) span
+  pub text_is : text ≡ near_text sets cost bound gap (slack_limit bound wanted.slack) span
 
--- for what it finds
-abbrev pub TellsFound : SetLists → List Row → List Var → Var → Wanted → ℕ → ℕ → Certified → Status → List ℕ → Type 0
-TellsFound sets rows vars var wanted rounded places (found.Optimal plan multipliers cost bound made) status text = IsToldNearly sets rows vars (value_of cost) (value_of bound) var wanted status text
-TellsFound sets rows vars var wanted rounded places (found.Infeasible multipliers made) status text = (status ≡ Infeasible) × (text ≡ infeasible_text made rounded places (ByGuesses FromNothing))
-TellsFound sets rows vars var wanted rounded places (found.Unbounded plan direction made) status text = ⊥
+-- for what it finds within a gap
+abbrev pub TellsFound : SetLists → List Row → List Var → Var → Wanted → ℕ → ℕ → ℕ → Certified → Status → List ℕ → Type 0
+TellsFound sets rows vars var wanted gap rounded places (found.Optimal plan multipliers cost bound made) status text = IsToldNearly sets rows vars (value_of cost) (value_of bound) var wanted gap status text
+TellsFound sets rows vars var wanted gap rounded places (found.Infeasible multipliers made) status text = (status ≡ Infeasible) × (text ≡ infeasible_text made rounded places (ByGuesses FromNothing))
+TellsFound sets rows vars var wanted gap rounded places (found.Unbounded plan direction made) status text = ⊥

@@ -1,6 +1,6 @@
 -- What `span` says over accepted data: between which values the capacity that is built in a year lies in plans near the best; that there is no plan, or no least cost;
 -- which step stopped; or that the linear program is too large.
-use Rattle.std.specs.Prelude.{◌≡◌, ℕ, List, ◌⊎◌, false, true}
+use Rattle.std.specs.Prelude.{◌≡◌, ℕ, Contains, List, [], ◌∷◌, Option, None, Some, ◌⊎◌, false, true}
 use Rattle.exact_num.specs.Range.{all_fit}
 use Rattle.exact_num.specs.Rational.{Rational}
 use Rattle.model_sets.specs.Data.{Data}
@@ -33,6 +33,7 @@ use Rattle.command_answers.specs.Definers.{definers}
 use Rattle.span_finder.specs.SpanEnds.{EndsSo, IsBounded, IsRising, Stops}
 use Rattle.span_finder.specs.declared.found.SpanFail.TheVariants.{Stopped}
 use Rattle.span_finder.specs.Slacks.{slack_formed, slack_limit}
+use Rattle.span_command.specs.declared.wanted.TheConstants.{USUAL_GAPS}
 use Rattle.span_command.specs.declared.wanted.Wanted.{Wanted}
 use Rattle.span_command.specs.NearBest.{HasNoHighEnd, IsHighEnd, IsLowEnd, IsNearHighEnd, IsNearLowEnd}
 use Rattle.span_command.specs.SpanTexts.{bounded_text, limited_line, rising_text, rounded_text}
@@ -108,7 +109,12 @@ pub record HasStoppedAfter (places : ℕ) (d : Data) (rows : List Row) (var : Va
 
 -- ---- what is found in numbers of limited accuracy, and proved
 
--- A plan costs little more than a bound that no plan undercuts: so many millionths of the bound's absolute value. Each plan whose cost is within the slack of the bound has at least
+-- the gaps that are tried in turn: the one that is given, else the usual ones
+abbrev pub gaps_of : Option ℕ → List ℕ
+gaps_of None = USUAL_GAPS
+gaps_of (Some gap) = gap ∷ []
+
+-- A plan costs little more than a bound that no plan undercuts: so many millionths of the bound's absolute value as one of the gaps that are tried, which is told. Each plan whose cost is within the slack of the bound has at least
 -- low of the variable and at most high, and such a plan near either end is printed.
 pub record IsSpannedNearly (places : ℕ) (d : Data) (rows : List Row) (var : Var) (wanted : Wanted) (status : Status) (text : List ℕ) : Type 0 where
   pub plan : List (Var × Rational)
@@ -119,12 +125,14 @@ pub record IsSpannedNearly (places : ℕ) (d : Data) (rows : List Row) (var : Va
   pub high : Rational
   pub low_plan : List (Var × Rational)
   pub high_plan : List (Var × Rational)
-  pub optimum : IsNearOptimum places d rows wanted.gap plan multipliers cost bound
+  pub gap : ℕ
+  pub tried : Contains (gaps_of wanted.gap) gap
+  pub optimum : IsNearOptimum places d rows gap plan multipliers cost bound
   pub cost_is : cost ≡ plan_cost (all_variables d) plan
-  pub low_end : IsNearLowEnd places d (slack_limit bound wanted.slack) var wanted.gap low_plan low
-  pub high_end : IsNearHighEnd places d (slack_limit bound wanted.slack) var wanted.gap high_plan high
+  pub low_end : IsNearLowEnd places d (slack_limit bound wanted.slack) var gap low_plan low
+  pub high_end : IsNearHighEnd places d (slack_limit bound wanted.slack) var gap high_plan high
   pub status_is : status ≡ Done
-  pub text_is : text ≡ rounded_text d.sets cost bound (slack_limit bound wanted.slack) low high low_plan high_plan
+  pub text_is : text ≡ rounded_text d.sets cost bound gap (slack_limit bound wanted.slack) low high low_plan high_plan
 
 -- ---- what is due
 
@@ -161,7 +169,7 @@ Finds Rounded places d rows var wanted rounded status text = DueForFound places 
 -- of rows: what the rounded method finds, or what is due by the size
 abbrev pub DueForRows : ℕ → Data → List Row → Var → Wanted → ℕ → Status → List ℕ → Type 0
 DueForRows places d rows var wanted rounded status text =
-    DueBySize (Finds wanted.method places d rows var wanted rounded) (DueForMethod places d rows var wanted rounded) rows (all_variables d) status text
+    DueBySize wanted.method wanted.pivots (Finds wanted.method places d rows var wanted rounded) (DueForMethod places d rows var wanted rounded) rows (all_variables d) status text
 
 -- over the data, for the capacity of a technology in a region and a year
 abbrev pub DueForMember : ℕ → Wanted → Var → ℕ → Data → Status → List ℕ → Type 0

@@ -45,10 +45,14 @@ rising_text sets cost limit var low high direction =
     head_text cost limit (value_in var_cmp low var) ++ line (codes "high none")
     ++ chosen_table sets (codes "Low") low ++ chosen_table sets (codes "High") high ++ (chosen_table sets (codes "Direction") direction ++ end_line)
 
--- by the rounded method: the cost of a plan, a bound that no plan undercuts, a limit near it, two ends, and a plan near each
-abbrev pub rounded_text : SetLists → Rational → Rational → Rational → Rational → Rational → List (Var × Rational) → List (Var × Rational) → List ℕ
-rounded_text sets cost bound limit low high low_plan high_plan =
-    codes "status solved\n" ++ amount_line (codes "cost") cost ++ amount_line (codes "bound") bound ++ amount_line (codes "limit") limit
+-- how many millionths cost and ends may be from what is proved
+abbrev pub gap_line : ℕ → List ℕ
+gap_line gap = line (codes "gap " ++ decimal gap)
+
+-- by the rounded method: the cost of a plan, a bound that no plan undercuts, the gap, a limit near the bound, two ends, and a plan near each
+abbrev pub rounded_text : SetLists → Rational → Rational → ℕ → Rational → Rational → Rational → List (Var × Rational) → List (Var × Rational) → List ℕ
+rounded_text sets cost bound gap limit low high low_plan high_plan =
+    codes "status solved\n" ++ amount_line (codes "cost") cost ++ amount_line (codes "bound") bound ++ gap_line gap ++ amount_line (codes "limit") limit
     ++ amount_line (codes "low") low ++ amount_line (codes "high") high ++ chosen_table sets (codes "Low") low_plan ++ chosen_table sets (codes "High") high_plan ++ end_line
 
 -- ---- stops

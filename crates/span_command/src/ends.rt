@@ -56,9 +56,9 @@ pub fn answer_near_ends(
     requires listed { IsListedBook sets.now book.now.rows book.now.vars }
     requires span { IsRoundedSpan book.now.rows book.now.vars (value_of limit) var gap span.now }
     ensures { IfOk result (λ answer. (answer.status ≡ Status.Done)
-        × (answer.text.items ≡ near_text sets.now (value_of cost) (value_of bound) (value_of limit) span.now)) }
+        × (answer.text.items ≡ near_text sets.now (value_of cost) (value_of bound) gap (value_of limit) span.now)) }
 {
-    let text = near_text(alloc, sets, cost, bound, limit, span)?;
+    let text = near_text(alloc, sets, cost, bound, gap, limit, span)?;
     Ok(Answer {
         status: Status::Done,
         text,

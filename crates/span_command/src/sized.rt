@@ -34,7 +34,7 @@ pub fn answer_book(
     ensures { (d : Data) → sets.now ≡ d.sets → IsBookOf places d book.now.rows book.now.vars
         → IfOk result (λ answer. DueForRows places d book.now.rows var wanted rounded answer.status answer.text.items) }
 {
-    match refuse_large(alloc, book)? {
+    match refuse_large(alloc, book, wanted.method, wanted.pivots)? {
         Some(refusal) => answer_large(
             alloc, book, sets, places, var, wanted, rounded, refusal, watcher,
         ),
@@ -42,7 +42,7 @@ pub fn answer_book(
     }
 }
 
-// What is due over a book whose linear program is too large: what the rounded method finds, where it is asked for, and else that it is refused so.
+// What is due over a book whose linear program is too large: what the rounded method finds, where it is asked for, and else this answer.
 fn answer_large(
     alloc: Global,
     book: &RowBook,
@@ -57,7 +57,7 @@ fn answer_large(
     requires listed { IsListedBook sets.now book.now.rows book.now.vars }
     requires chosen { var.kind ≡ NEW_CAPACITY }
     requires there { Contains book.now.vars var }
-    requires large { PassesLimits book.now.rows book.now.vars refusal.status refusal.text.items }
+    requires large { PassesLimits wanted.method wanted.pivots book.now.rows book.now.vars refusal.status refusal.text.items }
     ensures { (d : Data) → sets.now ≡ d.sets → IsBookOf places d book.now.rows book.now.vars
         → IfOk result (λ answer. DueForRows places d book.now.rows var wanted rounded answer.status answer.text.items) }
 {

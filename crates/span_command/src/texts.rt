@@ -5,8 +5,9 @@ ghost use Rattle.exact_num.specs.Value.{value_of};
 ghost use Rattle.result_tables.specs.Lines.{amount_line};
 ghost use Rattle.command_answers.specs.PlacesWithin.{IsVariableOfSets};
 ghost use Rattle.span_command.specs.Outcomes.{closing, high_line, near_text, span_text};
-ghost use Rattle.span_command.specs.SpanTexts.{chosen_table};
+ghost use Rattle.span_command.specs.SpanTexts.{chosen_table, gap_line};
 
+use command_answers::push_with_number;
 use exact_num::Frac;
 use model_sets::Sets;
 use result_tables::push_chosen_values;
@@ -39,22 +40,24 @@ pub fn span_text(
     Ok(out)
 }
 
-/// The text of ends of the rounded method, within a limit near a bound.
+/// The text of ends of the rounded method, by a gap and within a limit near a bound.
 pub fn near_text(
     alloc: Global,
     sets: &Sets,
     cost: Frac,
     bound: Frac,
+    gap: u32,
     limit: Frac,
     span: &RoundedSpan,
 ) -> Result<Vec<u8>, AllocError>
     requires low { AllByRecursion (λ e. IsVariableOfSets sets.now e.0) span.now.low_plan }
     requires high { AllByRecursion (λ e. IsVariableOfSets sets.now e.0) span.now.high_plan }
-    ensures { IfOk result (λ text. text.items ≡ near_text sets.now (value_of cost) (value_of bound) (value_of limit) span.now) }
+    ensures { IfOk result (λ text. text.items ≡ near_text sets.now (value_of cost) (value_of bound) gap (value_of limit) span.now) }
 {
     let mut out = Vec::from_slice(alloc, b"status solved\n")?;
     push_amount(&mut out, b"cost", cost)?;
     push_amount(&mut out, b"bound", bound)?;
+    push_gap(&mut out, gap)?;
     push_amount(&mut out, b"limit", limit)?;
     push_amount(&mut out, b"low", span.low)?;
     push_amount(&mut out, b"high", span.high)?;
@@ -73,6 +76,14 @@ fn push_amount(out: &mut Vec<u8>, word: &[u8], amount: Frac) -> Result<(), Alloc
     push_frac(out, amount)?;
     out.extend_from_slice(b" ")?;
     push_places(out, amount)?;
+    out.extend_from_slice(b"\n")
+}
+
+// Appends the line of the gap.
+fn push_gap(out: &mut Vec<u8>, gap: u32) -> Result<(), AllocError>
+    ensures { OnOk result (out.new.items ≡ out.old.items ++ gap_line gap) }
+{
+    push_with_number(out, b"gap ", u64::from(gap))?;
     out.extend_from_slice(b"\n")
 }
 

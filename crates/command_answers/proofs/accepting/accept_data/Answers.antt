@@ -1,4 +1,4 @@
-use Rattle.command_answers.proofs.Common.{refl, sym, subst, blocks_told, SetLists, set_lists}
+use Rattle.command_answers.proofs.Common.{◌≡◌, refl, sym, subst, blocks_told, SetLists, set_lists, data_line}
 use Rattle.param_tables.specs.Told.{NamesCell, refusal_told}
 use Rattle.command_answers.proofs.accepting.accept_data.Goals as goal
 
@@ -23,5 +23,5 @@ returns-in_ok-refuse_data-in-Err-Fault c =
       told = refl;
       names = told.1;
       status_is = said.0;
-      line_is = rw told.2 at said.1;
+      line_is = subst (λ (sets : SetLists). c.in_ok-refuse_data-in-Err-Fault.field-0.text.items ≡ data_line (refusal_told sets fault)) told.2 said.1;
     }

@@ -13,8 +13,7 @@ returns-then-size-gt-MOST_ROWS c =
         | then-size-gt-MOST_ROWS-via-then-size-gt-MOST_ROWS w ↦ inl (rw rows at w.if-size-gt-MOST_ROWS.true)
         | then-size-gt-MOST_ROWS-via-else-size-gt-MOST_ROWS+then-size-gt-MOST_COLUMNS w ↦ inr (rw columns at w.if-size-gt-MOST_COLUMNS.true)
       ];
-      status_is = rw (rows, columns) at told.0;
-      line_is = rw (rows, columns) at told.1;
+      told = rw (rows, columns) at told;
     }
 
 pub returns : goal.returns

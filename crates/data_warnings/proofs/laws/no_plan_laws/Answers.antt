@@ -1,5 +1,5 @@
 -- By the rule of the finding.
-use Rattle.data_warnings.proofs.Common.{◌≡◌, ℕ, ℤ, true, Contains, Feasible, Built, Var, Has-from_Contains, Finding, Place, Rule, YearSplitSum, YearGap, DiscountRate, UnprofiledDemand, ProfileSum, UnmadeDemand, StarvedTechnology, Disabled, Crossed, CrossedPeriod, Unreachable, ShortLives, LargeFactor, LargeAvailability, LargeTarget, SmallMargin, NegativeCost, Outlier, OneWayRoute, ZeroLimits, ZeroEmissions, HighLimits, IdleLimit, UnusedFuel, IdleTechnology, Rounded, findings, frame_of, excludes_plans, speaks, IsPlace}
+use Rattle.data_warnings.proofs.Common.{◌≡◌, ℕ, ℤ, true, Contains, Feasible, Built, Var, Has-from_Contains, Finding, Place, Rule, YearSplitSum, YearGap, DiscountRate, UnprofiledDemand, ProfileSum, UnmadeDemand, StarvedTechnology, Disabled, Crossed, CrossedPeriod, Unreachable, ShortLives, CoarseRates, LargeFactor, LargeAvailability, LargeTarget, SmallMargin, NegativeCost, Outlier, OneWayRoute, EqualRoute, UnequalRoute, ZeroLimits, ZeroEmissions, HighLimits, IdleLimit, UnusedFuel, IdleTechnology, Rounded, findings, frame_of, excludes_plans, speaks, IsPlace}
 use Rattle.model_sets.specs.Names as sets
 use Rattle.data_warnings.proofs.CrossedLimits.{not_crossed, not_crossed_period}
 use Rattle.data_warnings.proofs.FoundPlaces.{is_found}
@@ -26,6 +26,7 @@ by_rule b ProfileSum p at spoken excludes places q x plan = absurd (cc excludes)
 by_rule b StarvedTechnology p at spoken excludes places q x plan = absurd (cc excludes)
 by_rule b (Disabled enabler) p at spoken excludes places q x plan = absurd (cc excludes)
 by_rule b ShortLives p at spoken excludes places q x plan = absurd (cc excludes)
+by_rule b CoarseRates p at spoken excludes places q x plan = absurd (cc excludes)
 by_rule b LargeFactor p at spoken excludes places q x plan = absurd (cc excludes)
 by_rule b LargeAvailability p at spoken excludes places q x plan = absurd (cc excludes)
 by_rule b LargeTarget p at spoken excludes places q x plan = absurd (cc excludes)
@@ -33,6 +34,8 @@ by_rule b SmallMargin p at spoken excludes places q x plan = absurd (cc excludes
 by_rule b (NegativeCost cost) p at spoken excludes places q x plan = absurd (cc excludes)
 by_rule b (Outlier series) p at spoken excludes places q x plan = absurd (cc excludes)
 by_rule b OneWayRoute p at spoken excludes places q x plan = absurd (cc excludes)
+by_rule b EqualRoute p at spoken excludes places q x plan = absurd (cc excludes)
+by_rule b UnequalRoute p at spoken excludes places q x plan = absurd (cc excludes)
 by_rule b (ZeroLimits limit) p at spoken excludes places q x plan = absurd (cc excludes)
 by_rule b (ZeroEmissions limit) p at spoken excludes places q x plan = absurd (cc excludes)
 by_rule b (HighLimits ceiling) p at spoken excludes places q x plan = absurd (cc excludes)

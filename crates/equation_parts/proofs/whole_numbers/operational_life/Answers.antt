@@ -17,7 +17,9 @@ returns c =
     let given : Option ℤ = value_at d OPERATIONAL_LIFE (region_name d c.args.r ∷ technology_name d c.args.t ∷ []) in
     let life = life-given given (value_of c.at.result) c.at.ensures.amount c.at.ensures.given in
     let some = life.some in
+    let short = life.short in
     record {
       exact = ap unsigned_abs (back_in_range c.at.result.num c.at.result.num_fits ∙ life.top) ∙ life.is;
       some = rw (back_in_range c.at.result.num c.at.result.num_fits, life.top) (search rules);
+      most = rw (back_in_range c.at.result.num c.at.result.num_fits, life.top) (search rules);
     }

@@ -7,7 +7,7 @@ returns-in-Exact g c = λ places d same book.
     let rows = c.args.book.now.rows in
     let wanted = c.args.wanted in
     let refusal = c.args.refusal in
-    large-due places d rows c.args.book.now.vars book (Finds wanted.method places d rows wanted) (DueForMethod places d rows wanted) refusal.status refusal.text.items c.requires.large
+    large-due places d rows c.args.book.now.vars book wanted.method wanted.pivots (Finds wanted.method places d rows wanted) (DueForMethod places d rows wanted) refusal.status refusal.text.items c.requires.large
 
 pub returns-in-Some : goal.returns-in-Some
 returns-in-Some g c = λ places d same book. inl (rw c.in-Some.is at (c.in_ok-answer-in-Rounded.ensures places d same book))
@@ -17,4 +17,4 @@ returns-in-None g c = λ places d same book.
     let rows = c.args.book.now.rows in
     let wanted = c.args.wanted in
     let refusal = c.args.refusal in
-    large-due places d rows c.args.book.now.vars book (Finds wanted.method places d rows wanted) (DueForMethod places d rows wanted) refusal.status refusal.text.items c.requires.large
+    large-due places d rows c.args.book.now.vars book wanted.method wanted.pivots (Finds wanted.method places d rows wanted) (DueForMethod places d rows wanted) refusal.status refusal.text.items c.requires.large

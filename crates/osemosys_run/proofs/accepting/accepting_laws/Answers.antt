@@ -6,8 +6,8 @@ use Rattle.osemosys_run.proofs.accepting.accepting_laws.Goals as goal
 pub returns : goal.returns
 returns c =
     let laws : ProofLaws = record { one_proof = c.proof_telling_laws.ensures.one_proof; proof_or_fault = c.proof_telling_laws.ensures.proof_or_fault } in
-    λ places gap pivots method rounded bytes d end status proof text accepted proves due.
+    λ places gap pivots method rounded source d end status proof text accepted proves due.
     elim proves [
-      | inl solved ↦ accepts-end laws c.stop_laws.ensures.made places gap pivots d (some-variable bytes d accepted) rounded end proof status text method solved due
-      | inr (start, solved) ↦ accepts-from laws c.stop_laws.ensures.made places gap pivots d (some-variable bytes d accepted) rounded end proof status text method start solved due
+      | inl solved ↦ accepts-end laws c.stop_laws.ensures.made places gap pivots d (some-variable source d accepted) rounded end proof status text method solved due
+      | inr (start, solved) ↦ accepts-from laws c.stop_laws.ensures.made places gap pivots d (some-variable source d accepted) rounded end proof status text method start solved due
     ]

@@ -1,6 +1,5 @@
-use Rattle.osemosys_run.proofs.Common.{◌≡◌, ℕ, List, inl, inr, ap, sym, ◌∙◌, subst, IfOk-weaker, MatchResult-at_err, MatchResult-at_ok, SetLists, AreTablesFor, IsOf, Second}
-use Rattle.compare_command.specs.Compared.{Compares}
-use Rattle.result_pages.specs.FileNames.{last_segment}
+use Rattle.osemosys_run.proofs.Common.{inl, inr, sym, subst, IfOk-weaker, MatchResult-at_err, MatchResult-at_ok, SetLists, AreTablesFor, IsOf, Second}
+use Rattle.osemosys_run.specs.Scenarios.{second_source}
 use Rattle.osemosys_run.proofs.JudgedScenarios.{refused}
 use Rattle.osemosys_run.proofs.compared.answer_second.Goals as goal
 
@@ -26,8 +25,6 @@ returns-in-Ok c = λ text proof text2 kept stands2 short2.
     let of2 = subst (λ (sets : SetLists). IsOf kept2.judged sets c.in-Ok.two.kept.accepted) (sym c.sets-in-Ok.ensures.sets) kept2.of in
     let tabled = subst (AreTablesFor asked.show asked.places kept.judged.data_of kept.judged.rows kept.judged.proof) (sym c.as_slice.ensures.value) kept.tabled in
     let tabled2 = subst (AreTablesFor asked.show asked.places kept2.judged.data_of kept2.judged.rows kept2.judged.proof) (sym c.as_slice-in-Ok.ensures.value) kept2.tabled in
-    let name : c.last_segment.result.now ≡ last_segment asked.first.now = c.last_segment.ensures ∙ ap last_segment c.as_bytes.ensures.value in
-    let name2 : c.last_segment-in-Ok.result.now ≡ last_segment asked.second.now = c.last_segment-in-Ok.ensures ∙ ap last_segment c.as_bytes-in-Ok.ensures.value in
     IfOk-weaker c.answer_compare.result _ _
     (λ answer compares.
     inr (inr (record {
@@ -35,9 +32,7 @@ returns-in-Ok c = λ text proof text2 kept stands2 short2.
       two = kept2.judged;
       first = kept.is;
       second = kept2.is;
-      compares =
-          subst (λ (n : List ℕ). Compares (record { show = asked.show; places = asked.places; name = n; name2 = last_segment asked.second.now }) kept.judged kept2.judged answer.status answer.text.items) name
-          (subst (λ (n : List ℕ). Compares (record { show = asked.show; places = asked.places; name = c.last_segment.result.now; name2 = n }) kept.judged kept2.judged answer.status answer.text.items) name2 compares);
+      compares = compares;
     })))
     (c.answer_compare.ensures asked.places kept.judged kept2.judged of tabled of2 tabled2)
 
@@ -49,6 +44,6 @@ returns-in-Err c = λ text proof text2 kept stands2 short2.
     inr (inl (record {
       one = kept.judged;
       first = kept.is;
-      refused = refused c.args.asked.places c.args.asked.gap text2 c.args.second.proof.items Second c.in-Err.said.status c.in-Err.said.text.items answer.status answer.text.items unkept told.0 told.1;
+      refused = refused c.args.asked.places c.args.asked.gap (second_source text2 c.args.asked) c.args.second.proof.now Second c.in-Err.said.status c.in-Err.said.text.items answer.status answer.text.items unkept told.0 told.1;
     })))
     c.refuse_scenario.ensures

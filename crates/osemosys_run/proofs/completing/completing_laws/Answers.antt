@@ -6,8 +6,8 @@ pub returns : goal.returns
 returns c =
     let laws : Laws =
     record {
-      one_reading = c.verdict_laws.ensures.one_meaning;
       one_data = c.acceptance_laws.ensures.one_data;
+      one_count = c.acceptance_laws.ensures.one_count;
       not_both = c.acceptance_laws.ensures.not_both;
       one_plan = c.telling_laws.ensures.plan;
       one_multipliers = c.telling_laws.ensures.multipliers;

@@ -1,8 +1,8 @@
-use Rattle.osemosys_run.proofs.Common.{ℕ, List, inl, inr, map, ap, sym, ◌∙◌, subst, AllByRecursion, IfOk-weaker, SetLists, Data, Row, IsListedBook, TellsProof, ShowsPage, all_variables, instances, records_of}
+use Rattle.osemosys_run.proofs.Common.{List, inl, inr, map, sym, subst, AllByRecursion, IfOk-weaker, SetLists, Data, Row, IsListedBook, TellsProof, ShowsPage, all_variables, instances, records_of}
 use Rattle.plan_files.specs.Listed.{IsListedRow, name_of_row}
 use Rattle.command_answers.proofs.PlanCosts.{all-of}
 use Rattle.plan_files.specs.Listed.{IsListedVariable}
-use Rattle.result_pages.specs.FileNames.{last_segment}
+use Rattle.result_pages.specs.Pages.{title_of}
 use Rattle.osemosys_run.proofs.JudgedScenarios.{values_within}
 use Rattle.osemosys_run.proofs.page_file.answer_over.Goals as goal
 
@@ -33,9 +33,8 @@ returns-in-Ok c =
       proof = c.in-Ok.accepted.proof;
       told = told.told;
       shows =
-          subst (λ (rows : List Row). ShowsPage (last_segment c.args.asked.path.now) c.args.model.now.rounded c.args.places facts rows c.in-Ok.accepted.said.items c.in-Ok.accepted.proof answer.status answer.text.items) c.rows.ensures.rows
-          (subst (λ (name : List ℕ). ShowsPage name c.args.model.now.rounded c.args.places facts c.rows.result.now c.in-Ok.accepted.said.items c.in-Ok.accepted.proof answer.status answer.text.items)
-          (c.last_segment-file.ensures ∙ ap last_segment c.as_bytes.ensures.value) shows);
+          subst (λ (rows : List Row). ShowsPage (title_of c.args.asked.title) c.args.model.now.rounded c.args.places facts rows c.in-Ok.accepted.said.items c.in-Ok.accepted.proof answer.status answer.text.items) c.rows.ensures.rows
+          shows;
     })) c.answer_page.ensures
 
 pub returns-in-Err : goal.returns-in-Err

@@ -1,4 +1,4 @@
-use Rattle.osemosys_run.proofs.Common.{◌≡◌, IsSome, Some, arith, map, List, ℕ, Ok, ap, inl, inr, refl, subst, sym, ◌∙◌, string_bytes, Request, asked, Sight, seen, AskForEquations, Due, Rose, DueForReply, IsAsMade, IsForEquations, Caused, Sent, sent}
+use Rattle.osemosys_run.proofs.Common.{◌≡◌, IsSome, Some, arith, map, List, ℕ, Ok, inl, inr, refl, subst, sym, string_bytes, Request, asked, Sight, seen, AskForEquations, Due, Rose, DueForReply, IsAsMade, IsForEquations, Caused, Sent, sent}
 use Rattle.osemosys_run.proofs.RunLaws.{delivered-complete, delivered-failed_read, delivered-failed_write, delivered-read, delivered-whole, delivers-weaker, due-caused}
 use Rattle.osemosys_run.proofs.run.osemosys_watched.Goals as goal
 
@@ -35,7 +35,7 @@ returns-in-Ok g c =
     }
   where
     asks : (words : List (List ℕ)) (request : Request) → asked words ≡ Ok request → IsForEquations request → AskForEquations words
-    asks words request is for_equations = record { name = for_equations.name; places = for_equations.places; asks = is ∙ ap Ok for_equations.is }
+    asks words request is for_equations = record { name = for_equations.name; places = for_equations.places; request = request; asks = is; is = for_equations.is }
 
 pub returns-in-Err : goal.returns-in-Err
 returns-in-Err g c = record {

@@ -16,5 +16,5 @@ returns-in-None g c = λ d same book.
     let within = rw c.in-None.is at c.in_ok-refusal.ensures in
     IfOk-weaker c.answer_method.result _ _
     (λ answer due.
-    within-due places d rows c.args.book.now.vars book (Finds wanted.method places d rows c.args.var wanted c.args.rounded) (DueForMethod places d rows c.args.var wanted c.args.rounded) answer.status answer.text.items within due)
+    within-due places d rows c.args.book.now.vars book wanted.method wanted.pivots (Finds wanted.method places d rows c.args.var wanted c.args.rounded) (DueForMethod places d rows c.args.var wanted c.args.rounded) answer.status answer.text.items within due)
     (c.answer_method.ensures d same book)

@@ -8,7 +8,7 @@ returns-in-Exact g c = λ d same book.
     let rows = c.args.book.now.rows in
     let wanted = c.args.wanted in
     let refusal = c.args.refusal in
-    large-due places d rows c.args.book.now.vars book (Finds wanted.method places d rows c.args.var wanted c.args.rounded) (DueForMethod places d rows c.args.var wanted c.args.rounded) refusal.status refusal.text.items c.requires.large
+    large-due places d rows c.args.book.now.vars book wanted.method wanted.pivots (Finds wanted.method places d rows c.args.var wanted c.args.rounded) (DueForMethod places d rows c.args.var wanted c.args.rounded) refusal.status refusal.text.items c.requires.large
 
 pub returns-in-Some : goal.returns-in-Some
 returns-in-Some g c = λ d same book.
@@ -23,4 +23,4 @@ returns-in-None g c = λ d same book.
     let rows = c.args.book.now.rows in
     let wanted = c.args.wanted in
     let refusal = c.args.refusal in
-    large-due places d rows c.args.book.now.vars book (Finds wanted.method places d rows c.args.var wanted c.args.rounded) (DueForMethod places d rows c.args.var wanted c.args.rounded) refusal.status refusal.text.items c.requires.large
+    large-due places d rows c.args.book.now.vars book wanted.method wanted.pivots (Finds wanted.method places d rows c.args.var wanted c.args.rounded) (DueForMethod places d rows c.args.var wanted c.args.rounded) refusal.status refusal.text.items c.requires.large

@@ -4,7 +4,7 @@ use Rattle.request_files.specs.declared.marked.RequestFile.{RequestFile}
 use Rattle.request_files.specs.declared.whole.ReadEnd.TheVariants.{NoFile, Failed, TooLong, Memory}
 use Rattle.request_files.proofs.MarkedLaws.{found-as}
 use Rattle.osemosys_run.proofs.ReplyLaws.{told_so}
-use Rattle.osemosys_run.proofs.run.perform_command.Goals as goal
+use Rattle.osemosys_run.proofs.run.perform_request.Goals as goal
 
 -- an end that is told can be told
 end-told : (number : ℕ) (end : ReadEnd) (status : Status) (text : List ℕ) → TellsEnd number end status text → CanBeTold status
@@ -16,16 +16,16 @@ end-told number Memory status text tells = absurd tells
 pub answer-requires-clause-read : goal.answer-requires-clause-read
 answer-requires-clause-read g c =
     let read = MatchResult-at_ok _ _ c.in-Ok.found c.in-Ok.is c.in_ok-found.ensures.read in
-    let names : marked.names_of c.deref.result.now ≡ names_of (request_of c.args.command) = ap marked.names_of c.deref.ensures.value ∙ c.in_ok-files.ensures.names in
-    let marks : marks_of c.deref.result.now ≡ marks_for (request_of c.args.command) = ap marks_of c.deref.ensures.value ∙ c.in_ok-files.ensures.marks in
+    let names : marked.names_of c.deref.result.now ≡ names_of (request_of c.args.request) = ap marked.names_of c.deref.ensures.value ∙ c.in_ok-files.ensures.names in
+    let marks : marks_of c.deref.result.now ≡ marks_for (request_of c.args.request) = ap marks_of c.deref.ensures.value ∙ c.in_ok-files.ensures.marks in
     let found = found-as _ c.in-Ok.found.fed.items _ _ _ _ _ read.0 _ _ names marks read.1 read.2 read.3 in (
       read.0,
-      record { many = as-many (names_of (request_of c.args.command)) read.0 _ _ found.0; short = all-short (names_of (request_of c.args.command)) read.0 _ _ found.0; stand = found.1; held_is = found.2 },
+      record { many = as-many (names_of (request_of c.args.request)) read.0 _ _ found.0; short = all-short (names_of (request_of c.args.request)) read.0 _ _ found.0; stand = found.1; held_is = found.2 },
     )
 
 pub returns-in-Ok-clause-reply : goal.returns-in-Ok-clause-reply
 returns-in-Ok-clause-reply g c =
-    let request : Request = request_of c.args.command in
+    let request : Request = request_of c.args.request in
     let read = MatchResult-at_ok _ _ c.in-Ok.found c.in-Ok.is c.in_ok-found.ensures.read in
     let names : marked.names_of c.deref.result.now ≡ names_of request = ap marked.names_of c.deref.ensures.value ∙ c.in_ok-files.ensures.names in
     let marks : marks_of c.deref.result.now ≡ marks_for request = ap marks_of c.deref.ensures.value ∙ c.in_ok-files.ensures.marks in
@@ -51,7 +51,7 @@ returns-in_ok-answer-in-Err-clause-reply g c =
     let stopped = c.in-Err.stopped in
     let answer = c.in_ok-answer-in-Err.answer in
     let stops = MatchResult-at_err _ _ stopped c.in-Err.is c.in_ok-found.ensures.read in
-    let names : marked.names_of c.deref.result.now ≡ names_of (request_of c.args.command) = ap marked.names_of c.deref.ensures.value ∙ c.in_ok-files.ensures.names in
+    let names : marked.names_of c.deref.result.now ≡ names_of (request_of c.args.request) = ap marked.names_of c.deref.ensures.value ∙ c.in_ok-files.ensures.names in
     let stops_at = subst (λ (all : List (List ℕ)). StopsAt all stopped.place stopped.end (seen g.S.Shelf c.args.shelf.now) (seen g.S.Shelf c.read_files.new.shelf)) names stops in
     record {
       caused = λ status text said.
