@@ -23,8 +23,9 @@ async function checkPage(name) {
   check(`${name}: no request but the file`, browser.requests().length === 1, browser.requests());
   check(`${name}: drawn`, await ask(() => document.documentElement.classList.contains('drawn')));
   check(`${name}: its title has the file's name`, (await ask(() => document.title)).includes(reader.fileNames(name)[0]));
-  const texts = [await reader.texts('.tables'), await reader.texts('.said'), await reader.texts('.name')];
-  check(`${name}: texts are those of the file`, tables.length && isSame(texts, [tables, reader.said(name), reader.fileNames(name)]));
+  const texts = await Promise.all(['.tables', '.said', '.name', '.changes'].map(kind => reader.texts(kind)));
+  const wanted = [tables, reader.said(name), reader.fileNames(name), reader.changes(name)];
+  check(`${name}: texts are those of the file`, tables.length && isSame(texts, wanted));
   check(`${name}: names are text`, await ask(() => document.scripts.length === 1 && seen.all('style').length === 1
     && !document.querySelector('img, iframe, object, embed, form, link, base')
     && !seen.all('*').some(one => [...one.attributes].some(attribute => attribute.name.startsWith('on')))));
@@ -355,6 +356,58 @@ tests['made-members.html: two files'] = async name => {
   check('members of one file alone are told',
     isSame(told, ['Only in other.dat: TECHNOLOGY STORE, MODE_OF_OPERATION 7.']), told);
   check('what isn\'t proved isn\'t said', (await reader.text('.top .say')).startsWith('Not both plans are proved'));
+};
+
+// ---- Data that a file of changes has changed
+
+const changesInHead = () => ask(() => seen.all('#head .made').map(one => ({
+  summary: one.querySelector('summary').textContent, lines: one.querySelector('pre').textContent.split('\n'),
+  inside: one.querySelectorAll('*').length, isShown: one.querySelector('pre').checkVisibility(),
+})));
+
+tests['country.html: data without changes'] = async name => {
+  await reader.open(name);
+  check('of data without changes the name is told alone', await reader.text('#head .file') === 'country.dat');
+  check('and nothing of changes', !(await changesInHead()).length && !(await reader.text('#head')).includes('change'));
+};
+
+const CHANGES = ['NAME,REGION,TECHNOLOGY,YEAR,CHANGE,VALUE', 'CapitalCost,ISLE,SOLAR,2030,*,0.8',
+  'CapitalCost,ISLE,SOLAR,2031,*,0.8', 'TotalAnnualMaxCapacity,ISLE,WIND,2035,=,4'];
+
+tests['made-changes.html: changes in the head'] = async name => {
+  await reader.open(name);
+  check('how many changes were made', await reader.text('#head .file') === 'country.dat with 3 changes');
+  check('in the title too', (await ask(() => document.title)).startsWith('country.dat with 3 changes: '));
+  const [folded, ...others] = await changesInHead();
+  check('which they are, folded', folded.summary === '3 changes' && !folded.isShown && !others.length, folded, others);
+  check('line by line', isSame(folded.lines, CHANGES), folded.lines);
+  await ask(() => document.querySelector('#head .made summary').click());
+  check('unfolded by a click', (await changesInHead())[0].isShown);
+  await ask(() => document.querySelector('#head .made summary').click());
+  await browser.call('Emulation.setEmulatedMedia', { media: 'print' });
+  check('and on paper', (await changesInHead())[0].isShown);
+  await browser.call('Emulation.setEmulatedMedia', { media: '' });
+};
+
+tests['made-hostile-changes.html: changes in the head'] = async name => {
+  await reader.open(name);
+  check('one change', await reader.text('#head .file') === 'country.dat with 1 change');
+  const [fold] = await changesInHead();
+  const field = '"<script>alert(""1"")</script></pre><img src=x onerror=\'alert(2)\'>&lt;b&gt;&amp;"';
+  check('markup and quotes of a field are text', fold.inside === 2
+    && isSame(fold.lines, ['NAME,TECHNOLOGY,CHANGE,VALUE', `CapitalCost,${field},*,0.8`]), fold);
+  check('which runs nothing', !browser.troubles().length && browser.requests().length === 1, browser.troubles());
+};
+
+tests['made-changes-of-both.html: changes in the head'] = async name => {
+  const before = 'country.dat with 1 change', after = 'country.dat with 3 changes';
+  await reader.open(name);
+  check('each of two plans has its own', await reader.text('h1') === `${after} against ${before}`);
+  const folds = await changesInHead();
+  check('with its lines', isSame(folds.map(fold => [fold.summary, fold.lines]),
+    [[before, CHANGES.slice(0, 2)], [after, CHANGES]]), folds);
+  const shown = await ask(() => seen.texts('.bar label:first-child option'));
+  check('and so they are chosen', isSame(shown, ['What changes', before, after]), shown);
 };
 
 // Time is the page's own, since other programs may have the processors; by the clock it is told only.

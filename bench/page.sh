@@ -2,7 +2,8 @@
 # Tries results pages in Chromium: page.sh [--anew | --planted] FOLDER. FOLDER has pages as `osemosys page` and `osemosys compare --show
 # page` write them; some checks want country.html, compare.html, r3-trade.html, hostile.html, no-plan.html and unbounded.html among them.
 # With --anew they are assembled again, of their texts and the constants of crates/result_pages. With --planted mistakes are planted in
-# copies of script and assembly, one after another, and each has to be found. Prints what is wrong, and counts.
+# copies of script and assembly, one after another, and each has to be found. Where Firefox is there, it has to draw all pages without an
+# error. Prints what is wrong, and counts.
 top=$(cd "$(dirname "$0")/.." && pwd)
 name=page.sh
 . "$top/bench/common.sh"
@@ -64,4 +65,12 @@ python3 -B "$top/bench/page_hashes.py"
 hashes=$?
 python3 -B "$top/bench/page_make.py" $mode --made "$1" "$work/pages"
 made=$?
-tested "$work/pages" && [ $hashes -eq 0 ] && [ $made -eq 0 ]
+tested "$work/pages"
+shown=$?
+if command -v firefox-esr >/dev/null 2>&1; then
+    mkdir "$work/firefox"
+    node --no-warnings --experimental-websocket "$top/bench/page_firefox.mjs" "$work/pages" "$work/firefox" || shown=1
+else
+    echo "$name: not tried in Firefox, which is missing (Debian has it in firefox-esr)"
+fi
+[ $shown -eq 0 ] && [ $hashes -eq 0 ] && [ $made -eq 0 ]

@@ -1,6 +1,6 @@
 """page_make.py [--anew] [--made] FROM TO: puts the results pages of the folder FROM into the folder TO.
 
-A page has the texts of one plan or of two, (file name, what is said, tables), and what `compare` says. The pages of FROM have to be these
+A page has the texts of one plan or of two, (file name, what is said, tables, and a file of changes or None), and what `compare` says. The pages of FROM have to be these
 texts, escaped, between the constants of crates/result_pages; with --anew they are assembled so, whatever they were. With --made there are
 pages of changed texts besides, which show what no example does.
 """
@@ -20,19 +20,31 @@ def escaped(text):
     return text
 
 
+PLAN = re.compile(
+    r'<h3 class="name">(?P<name>.*?)</h3>\n(?:<pre class="changes">\n(?P<changes>.*?)</pre>\n)?'
+    r'<pre class="said">\n(?P<said>.*?)</pre>.*?<pre class="tables" tabindex="0">\n(?P<tables>.*?)</pre>',
+    re.S,
+)
+
+
 def texts_of(page):
     """The texts of a page, and what is compared."""
-    plans = re.findall(r'<h3 class="name">(.*?)</h3>\n<pre class="said">\n(.*?)</pre>.*?<pre class="tables" tabindex="0">\n(.*?)</pre>', page, re.S)
+    plans = PLAN.finditer(page)
     compared = re.search(r'<pre class="compared">\n(.*?)</pre>', page, re.S)
-    return [tuple(html.unescape(text) for text in plan) for plan in plans], html.unescape(compared.group(1) if compared else "")
+    unescaped = [tuple(text and html.unescape(text) for text in plan.group("name", "said", "tables", "changes")) for plan in plans]
+    return unescaped, html.unescape(compared.group(1) if compared else "")
+
+
+def plan_text(part, name, said, tables, changes=None):
+    """What a page has of a plan."""
+    changed = "" if changes is None else part["CHANGES_START"] + escaped(changes) + part["CHANGES_END"]
+    title = part["PLAN_NAME"] + escaped(name) + part["NAME_END"] + changed
+    return title + part["PLAN_SAID"] + escaped(said) + part["PLAN_TABLES"] + escaped(tables) + part["PLAN_END"]
 
 
 def assembled(texts, compared=""):
     part = page_hashes.constants(page_hashes.TOP)
-    plans = [
-        part["PLAN_NAME"] + escaped(name) + part["PLAN_SAID"] + escaped(said) + part["PLAN_TABLES"] + escaped(tables) + part["PLAN_END"]
-        for name, said, tables in texts
-    ]
+    plans = [plan_text(part, *text) for text in texts]
     return "".join(
         [part["PAGE_START"], part["STYLE"], part["PAGE_BODY"], *plans, part["COMPARED"], escaped(compared)]
         + [part["SCRIPT_START"], page_hashes.script(part), part["PAGE_END"]]
@@ -170,14 +182,43 @@ def limits(name, said, tables):
     return [(name, said, tables)], ""
 
 
+CHANGES = """NAME,REGION,TECHNOLOGY,YEAR,CHANGE,VALUE
+CapitalCost,ISLE,SOLAR,2030,*,0.8
+CapitalCost,ISLE,SOLAR,2031,*,0.8
+TotalAnnualMaxCapacity,ISLE,WIND,2035,=,4
+"""
+HOSTILE = """NAME,TECHNOLOGY,CHANGE,VALUE
+CapitalCost,"<script>alert(""1"")</script></pre><img src=x onerror='alert(2)'>&lt;b&gt;&amp;",*,0.8
+"""
+
+
+def changes(name, said, tables):
+    """A plan of data that three changes were made to."""
+    return [(name, said, tables, CHANGES)], ""
+
+
+def hostile_changes(name, said, tables):
+    """A file of changes that has markup and quotes in a field, and ends without a line feed."""
+    return [(name, said, tables, HOSTILE.rstrip("\n"))], ""
+
+
+def changes_of_both(name, said, tables):
+    """Two plans of one data file, changed once and three times."""
+    compared = "compared\nstatus least least\ncost 8968.230890 8968.230890 0.000000\nbound 8968.230890 8968.230890\ndifference 0.000000 0.000000\n"
+    emitted = section(tables, "AnnualTechnologyEmission")
+    more = tables.replace(emitted, re.sub(r"(?m)^(ISLE,GAS_IMPORT,CO2,2031),.*$", r"\1,9.000000", emitted))
+    once = "".join(CHANGES.splitlines(keepends=True)[:2])
+    return [(name, said, tables, once), (name, said, more, CHANGES)], compared
+
+
 def made(texts):
     """The pages that are made of examples, by their names."""
-    plan = {name: found[0] for name, (found, _) in texts.items() if found}
+    plan = {name: found[0][:3] for name, (found, _) in texts.items() if found}
     if "country.html" in plan:
         country = plan["country.html"]
         yield "made-looks.html", looks(country[1])
-        for kind in (small, noise, rare, members, huge, limits):
-            yield "made-%s.html" % kind.__name__, kind(*country)
+        for kind in (small, noise, rare, members, huge, limits, changes, hostile_changes, changes_of_both):
+            yield "made-%s.html" % kind.__name__.replace("_", "-"), kind(*country)
     if "r3-trade.html" in plan:
         yield "made-routes.html", routes(*plan["r3-trade.html"])
         yield "made-large.html", large(*plan["r3-trade.html"])

@@ -12,8 +12,8 @@ MISTAKES = {
     ),
     "bars-of-a-stack-all-begin-at-0": (
         SRC + "script_drawing.rt",
-        "const from = v > 0 ? up : down;",
-        "const from = 0;",
+        "const from = !isStack ? 0 : v > 0 ? up : down,",
+        "const from = 0,",
     ),
     "five-decimals": (
         SRC + "script_numbers.rt",
@@ -27,8 +27,8 @@ MISTAKES = {
     ),
     "a-region-shows-the-first-one": (
         SRC + "script_series.rt",
-        "for (const row of plan.rows(table, region, what))",
-        "for (const row of plan.rows(table, names.REGION[0], what))",
+        "for (const row of plan.rows(table, region, what).filter(",
+        "for (const row of plan.rows(table, names.REGION[0], what).filter(",
     ),
 }
 

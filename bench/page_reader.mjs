@@ -43,6 +43,8 @@ export class Reader {
 
   said(name) { return this.textsAfter(name, '<pre class="said">\n'); }
 
+  changes(name) { return this.textsAfter(name, '<pre class="changes">\n'); }
+
   fileNames(name) { return this.textsAfter(name, '<h3 class="name">'); }
 
   // ---- The page

@@ -84,11 +84,19 @@ def share(part, whole_part):
     return text + "\u00a0%"
 
 
+def with_changes(changes):
+    """What the name of a data file is told with: how many changes were made, each a line after the first."""
+    if changes is None:
+        return ""
+    made = len(list(csv.reader(io.StringIO(changes)))) - 1
+    return " with %d change%s" % (made, "" if made == 1 else "s")
+
+
 class Plan:
     """The tables of a plan, and the charts of a scope as {(heading, title): (series, lines)}, each {name: values}."""
 
-    def __init__(self, name, said, text):
-        self.name, self.said, self.tables, lines = name, said, {}, []
+    def __init__(self, name, said, text, changes=None):
+        self.name, self.said, self.tables, lines = name + with_changes(changes), said, {}, []
         for line in text.splitlines():
             if "," not in line:
                 lines = self.tables.setdefault(line, [])
@@ -494,7 +502,7 @@ def main():
     for name in sorted(os.listdir(folder)):
         path = os.path.join(folder, name)
         texts, compared = page_make.texts_of(page_make.read(path))
-        is_solved = texts and all(said.startswith("accepted\n") for _, said, _ in texts)
+        is_solved = texts and all(text[1].startswith("accepted\n") for text in texts)
         if is_solved and name not in ("made-large.html", "made-looks.html"):
             counts.compare_page(path, name, [Plan(*text) for text in texts], compared)
     print("page_sums.py: %d charts and tables tried, %d cells the same, %d wrong" % (counts.charts, counts.cells, counts.wrong))

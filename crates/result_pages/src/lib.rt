@@ -17,4 +17,4 @@ mod script_tables;
 
 pub use laws::escaping_laws;
 pub use names::last_segment;
-pub use pages::{PagePart, compare_page, plan_page};
+pub use pages::{PagePart, Title, compare_page, plan_page};

@@ -42,6 +42,9 @@ a, summary { color: var(--link) }
 .skip:focus { left: 8px; top: 8px; background: var(--card); padding: 6px 10px }
 .over { color: var(--soft); font-size: 14px; margin-bottom: 4px }
 .file { color: var(--soft); font-size: 14px; margin-top: 6px; overflow-wrap: anywhere }
+.made { margin-top: 4px }
+.made summary { overflow-wrap: anywhere }
+.made pre { margin: 6px 0 0; max-height: 40vh }
 
 /* The headline */
 .top, figure { background: var(--card); border: 1px solid var(--edge); border-radius: 10px }
@@ -185,7 +188,7 @@ thead tr > :first-child { padding-left: 0; text-align: left }
 .data { max-width: 1220px; margin: 30px auto 0; padding: 0 20px; font-size: 14px }
 .data h2 { font-size: 17px; margin: 0 0 8px }
 .data h3 { font-size: 15px; margin: 14px 0 6px }
-.said, .tables, .compared {
+.said, .tables, .compared, .changes, .made pre {
   font: 12px/1.45 ui-monospace, monospace; background: var(--card); border: 1px solid var(--edge);
   border-radius: 8px; padding: 10px; overflow: auto; max-height: 70vh;
 }
@@ -230,11 +233,11 @@ footer b { color: var(--ink) }
   figure > .place { grid-column: 1; width: 85mm }
   figure.wide > .place, figure > .place:has(table) { grid-column: 1/-1; width: auto }
   figure > .legend, figure > .legend + .note { grid-column: 2; flex-direction: column }
-  .legend button[aria-pressed=false], details > summary, figure details .scroll { display: none }
+  .legend button[aria-pressed=false], figure summary, .data summary, figure details .scroll { display: none }
   .paper { display: block }
   details::details-content { content-visibility: visible; display: block }
   .scroll { overflow: visible }
-  .said, .tables, .compared { max-height: none; overflow: visible; white-space: pre-wrap }
+  .said, .tables, .compared, .changes, .made pre { max-height: none; overflow: visible; white-space: pre-wrap }
   table { font-size: 7.5pt }
   th, td { padding-left: 8px }
   .glance, .bars { font-size: 9pt }

@@ -1,12 +1,12 @@
 //! The page of a plan, and of two that are compared.
 
-ghost use Rattle.std.specs.Prelude.{◌≡◌, ◌++◌, ◌∷◌, [], IfOk, OnOk};
-ghost use Rattle.result_pages.specs.Pages.{compare_page, drawing_script, page_end, page_start, part_of, part_text, plan_page, reading_script};
+ghost use Rattle.std.specs.Prelude.{◌≡◌, ◌++◌, ◌∷◌, [], option_map, IfOk, OnOk};
+ghost use Rattle.result_pages.specs.Pages.{changes_text, compare_page, drawing_script, page_end, page_start, part_of, part_text, plan_page, reading_script, title_of, title_text};
 
 use crate::escaping::push_escaped;
 use crate::page_parts::{
-    COMPARED, PAGE_BODY, PAGE_END, PAGE_START, PLAN_END, PLAN_NAME, PLAN_SAID, PLAN_TABLES,
-    SCRIPT_START,
+    CHANGES_END, CHANGES_START, COMPARED, NAME_END, PAGE_BODY, PAGE_END, PAGE_START, PLAN_END,
+    PLAN_NAME, PLAN_SAID, PLAN_TABLES, SCRIPT_START,
 };
 use crate::page_style::STYLE;
 use crate::script_drawing::SCRIPT_DRAWING;
@@ -17,11 +17,20 @@ use crate::script_series::SCRIPT_SERIES;
 use crate::script_tables::SCRIPT_TABLES;
 use std::alloc::{AllocError, Global};
 
+/// What names data on a page.
+#[derive(Clone, Copy)]
+pub struct Title<'a> {
+    /// The name of the data file, without its folders.
+    pub name: &'a [u8],
+    /// The text of the file of changes, where there is one.
+    pub changes: Option<&'a [u8]>,
+}
+
 /// What a page shows of one data file.
 #[derive(Clone, Copy)]
 pub struct PagePart<'a> {
-    /// The name of the data file.
-    pub name: &'a [u8],
+    /// The data file.
+    pub title: Title<'a>,
     /// What is said of the answer, in lines.
     pub said: &'a [u8],
     /// The tables that charts are drawn from, one after another, each after a line with its name.
@@ -74,13 +83,36 @@ fn push_start(out: &mut Vec<u8>) -> Result<(), AllocError>
 fn push_part(out: &mut Vec<u8>, part: PagePart<'_>) -> Result<(), AllocError>
     ensures { OnOk result (out.new.items ≡ out.old.items ++ part_text (part_of part.entry)) }
 {
-    out.extend_from_slice(PLAN_NAME)?;
-    push_escaped(out, part.name)?;
+    push_title(out, part.title)?;
     out.extend_from_slice(PLAN_SAID)?;
     push_escaped(out, part.said)?;
     out.extend_from_slice(PLAN_TABLES)?;
     push_escaped(out, part.tables)?;
     out.extend_from_slice(PLAN_END)
+}
+
+// Appends the name of a data file, and its changes.
+#[tactic(auto, unfolding(crate::specs::Pages::title_text))]
+fn push_title(out: &mut Vec<u8>, title: Title<'_>) -> Result<(), AllocError>
+    ensures { OnOk result (out.new.items ≡ out.old.items ++ title_text (title_of title.entry)) }
+{
+    out.extend_from_slice(PLAN_NAME)?;
+    push_escaped(out, title.name)?;
+    out.extend_from_slice(NAME_END)?;
+    push_changes(out, title.changes)
+}
+
+// Appends the text of a file of changes, where there is one.
+#[tactic(auto, unfolding(crate::specs::Pages::changes_text))]
+fn push_changes(out: &mut Vec<u8>, changes: Option<&[u8]>) -> Result<(), AllocError>
+    ensures { OnOk result (out.new.items ≡ out.old.items ++ changes_text (option_map (λ text. text.now) changes.entry)) }
+{
+    let Some(text) = changes else {
+        return Ok(());
+    };
+    out.extend_from_slice(CHANGES_START)?;
+    push_escaped(out, text)?;
+    out.extend_from_slice(CHANGES_END)
 }
 
 // Appends what comes after the last data file: how the costs of two plans differ, and the script.

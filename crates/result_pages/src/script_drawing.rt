@@ -4,24 +4,35 @@
 pub(crate) const SCRIPT_DRAWING: &[u8] = br##"
 // ---- Elements
 
-function filledIn(element, attributes, children) {
+const builderOf = namespace => (tag, attributes, ...children) => {
+  const element = document.createElementNS(namespace, tag);
   for (const [name, value] of Object.entries(attributes || {}))
     if (value !== null && value !== undefined) element.setAttribute(name, value);
-  element.append(...children.flat(9).filter(child => child !== null && child !== undefined));
+  element.append(...present(children.flat(9)));
   return element;
-}
+};
 
-const html = (tag, attributes, ...children) => filledIn(document.createElement(tag), attributes, children);
-const svg = (tag, attributes, ...children) =>
-  filledIn(document.createElementNS('http://www.w3.org/2000/svg', tag), attributes, children);
+const html = builderOf('http://www.w3.org/1999/xhtml'), svg = builderOf('http://www.w3.org/2000/svg');
 const byId = id => document.getElementById(id);
+const tell = text => { byId('live').textContent = text; };
+const present = list => list.filter(item => item);
 
 function on(element, event, act) {
   element.addEventListener(event, act);
   return element;
 }
 
-const button = (text, label, act) => on(html('button', { type: 'button', 'aria-label': label }, text), 'click', act);
+const button = (content, attributes, act) =>
+  on(html('button', { type: 'button', ...attributes }, content), 'click', act);
+
+// Tables: a heading is its content, or [content, class]; the name of a row is the first of its cells.
+const paragraph = (kind, ...content) => html('p', { class: kind }, content);
+const amount = content => html('td', null, content);
+const words = content => html('td', { class: 'w' }, content);
+const rowOf = (name, cells, kind) => html('tr', { class: kind }, html('th', { scope: 'row' }, name), cells);
+const headOf = ([content, kind]) => html('th', { scope: 'col', class: kind }, content);
+const tableOf = (kind, headings, rows) => html('table', { class: kind }, html('thead', null,
+  html('tr', null, headings.map(heading => headOf([heading].flat())))), html('tbody', null, rows));
 
 function save(name, text, type) {
   const file = name.replace(/[^A-Za-z0-9._-]+/g, '_'), url = URL.createObjectURL(new Blob([text], { type }));
@@ -37,6 +48,19 @@ const number = v => (v === null ? NaN : Number(v) / 1e6);
 const isKnown = v => !Number.isNaN(v);
 const tenth = v => Math.round(v * 10) / 10;
 
+const rectangle = (kind, x, y, width, height, more) =>
+  svg('rect', { class: kind, x: tenth(x), y: tenth(y), width: tenth(width), height: tenth(height), ...more });
+const circle = (kind, cx, cy, r) => svg('circle', { class: kind, cx, cy, r });
+const stroke = (kind, d) => svg('path', { class: kind, d });
+const label = (kind, x, y, text) => svg('text', { class: kind, x: tenth(x), y: tenth(y) }, text);
+
+// A rectangle in a series' look: its colour, and stripes or dots over it.
+const painted = ([colour, level], ...place) =>
+  [rectangle(colour, ...place), level ? rectangle('p' + level, ...place) : null];
+const keyPicture = content => svg('svg', { class: 'key', viewBox: '0 0 11 11', 'aria-hidden': 'true' }, content);
+const swatch = look => keyPicture(painted(look, 0, 0, 11, 11));
+const strokeSwatch = kind => keyPicture(stroke(kind, 'M0 5.5H11'));
+
 // The least step of 1, 2, 5, 10, .. by which at most six reach from `low` to `high`, which stand below 0 and above.
 function scaleOf(high, low) {
   for (let power = -6; ; power++)
@@ -50,13 +74,6 @@ function tickText(v, places) {
   const size = Math.abs(v), text = size >= 1e9 ? size.toExponential().replace('e+', 'e') : size.toFixed(places);
   return (v < 0 && Number(text) ? MINUS : '') + text.replace(/^\d{5,}/, spaced);
 }
-
-// A rectangle in a series' look: its colour, and stripes or dots over it.
-const rectangles = ([colour, level], x, y, width, height) => [svg('rect', { class: colour, x, y, width, height }),
-  level ? svg('rect', { class: 'p' + level, x, y, width, height }) : null];
-const keyPicture = content => svg('svg', { class: 'key', viewBox: '0 0 11 11', 'aria-hidden': 'true' }, content);
-const swatch = look => keyPicture(rectangles(look, 0, 0, 11, 11));
-const strokeSwatch = stroke => keyPicture(svg('path', { class: stroke, d: 'M0 5.5H11' }));
 
 // The series of a picture. Left out are those that the reader took out. One series stands for all whose every value is
 // below a ten-thousandth of the chart's total, and for the smallest beyond the most that are wanted.
@@ -83,112 +100,93 @@ function columnOf(shown, i, style) {
 }
 
 const stackEnds = values => [1, -1].map(way => way * values.reduce((sum, v) => sum + Math.max(way * v || 0, 0), 0));
+const drawnValues = line => line.drawn || line.values;
 
 // Where everything stands: `y` of a value, `x` of a column's left side, `edge` of its bar's; `fat` is a bar's width.
 function layoutOf(chart, shown, isWide) {
   const style = chart.style || state.style, isStack = style === 'stack' || style === 'share';
   const columns = chart.labels.map((_, i) => columnOf(shown, i, style)), lines = style === 'share' ? [] : chart.lines;
-  const marks = lines.flatMap(line => (line.drawn || line.values).map(number)).filter(isKnown);
+  const marks = lines.flatMap(line => drawnValues(line).map(number)).filter(isKnown);
   const ends = columns.flatMap(values => (isStack ? stackEnds(values) : values.filter(isKnown)));
   const high = Math.max(0, ...ends, ...marks), low = Math.min(0, ...ends, ...marks);
-  const scale = scaleOf(high === low ? 1 : high, low), unitText = style === 'share' ? '\u00a0%' : '', ticks = [];
-  for (let i = -scale.down; i <= scale.up; i++)
-    ticks.push([i * scale.step, tickText(i * scale.step, scale.places) + unitText]);
+  const { step, up, down, places } = scaleOf(high === low ? 1 : high, low);
+  const ticks = [...Array(up + down + 1).keys()].map(i => (i - down) * step)
+    .map(v => [v, tickText(v, places) + (style === 'share' ? '\u00a0%' : '')]);
   const full = isWide ? WIDE : NARROW, left = 8 + LETTER * Math.max(...ticks.map(([, text]) => text.length));
-  const slot = (full - left - 8) / chart.labels.length, unit = HEIGHT / ((scale.up + scale.down) * scale.step);
-  const layout = { style, columns, lines, ticks, full, left, slot, fat: Math.min(slot * 0.75, 48) };
-  layout.x = i => left + slot * i;
-  layout.edge = i => layout.x(i) + (slot - layout.fat) / 2;
-  layout.middle = i => tenth(layout.x(i) + slot / 2);
-  layout.y = v => TOP + (scale.up * scale.step - v) * unit;
+  const slot = (full - left - 8) / chart.labels.length, unit = HEIGHT / ((up + down) * step);
+  const fat = Math.min(slot * 0.75, 48), x = i => left + slot * i;
   // A series none of whose values reaches half a pixel can't be seen, so neither it nor its name is drawn.
-  layout.isSeen = shown.map((_, k) => style === 'dots' || columns.some(values => Math.abs(values[k]) * unit >= 0.5));
-  return layout;
+  const isSeen = shown.map((_, k) => style === 'dots' || columns.some(values => Math.abs(values[k]) * unit >= 0.5));
+  return { style, columns, lines, ticks, full, left, slot, fat, isSeen, x, edge: i => x(i) + (slot - fat) / 2,
+    middle: i => tenth(x(i) + slot / 2), y: v => TOP + (up * step - v) * unit };
 }
 
-// The part of a column from one value to another; `place` of `of` bars that stand side by side.
-function barOf(layout, look, i, from, to, place = 0, of = 1) {
-  const [top, bottom] = [layout.y(Math.max(from, to)), layout.y(Math.min(from, to))];
-  const x = layout.edge(i) + (layout.fat * place) / of;
-  return rectangles(look, tenth(x), tenth(top), tenth(layout.fat / of), tenth(bottom - top));
-}
-
-const stacks = (layout, shown) => layout.columns.map((values, i) => {
+// The bars of each column: on each other from 0 up and from 0 down, or side by side.
+const bars = isStack => (layout, shown) => layout.columns.map((values, i) => {
   let up = 0, down = 0;
   return values.map((v, k) => {
-    const from = v > 0 ? up : down;
+    const from = !isStack ? 0 : v > 0 ? up : down, [place, of] = isStack ? [0, 1] : [k, values.length];
     if (v > 0) up += v; else if (v < 0) down += v;
-    return v && layout.isSeen[k] ? barOf(layout, shown[k].look, i, from, from + v) : null;
+    if (!v || !layout.isSeen[k]) return null;
+    const [top, bottom] = [Math.max(from, from + v), Math.min(from, from + v)].map(layout.y), width = layout.fat / of;
+    return painted(shown[k].look, layout.edge(i) + width * place, top, width, bottom - top);
   });
 });
 
-const groups = (layout, shown) => layout.columns.map((values, i) => values.map((v, k) =>
-  (v && layout.isSeen[k] ? barOf(layout, shown[k].look, i, 0, v, k, values.length) : null)));
-
 // A line with a dot at each value; it has a gap where there is none.
-const curves = (layout, shown) => shown.map((one, k) => {
+const curves = (layout, shown) => shown.map(({ look: [colour, level] }, k) => {
   if (!layout.isSeen[k]) return null;
-  const ys = layout.columns.map(values => tenth(layout.y(values[k]))), places = ys.map((_, i) => i);
-  const known = places.filter(i => isKnown(ys[i]));
-  const path = known.map(i => (isKnown(ys[i - 1] ?? NaN) ? 'L' : 'M') + layout.middle(i) + ' ' + ys[i]).join('');
-  return [svg('path', { class: `${one.look[0]} l l${one.look[1]}`, d: path }), known.map(i =>
-    svg('circle', { class: one.look[0], cx: layout.middle(i), cy: ys[i], r: places.length > 40 ? 1 : 2.4 }))];
+  const ys = layout.columns.map(values => tenth(layout.y(values[k])));
+  const known = [...ys.keys()].filter(i => isKnown(ys[i]));
+  const path = known.map(i => (known.includes(i - 1) ? 'L' : 'M') + layout.middle(i) + ' ' + ys[i]).join('');
+  return [stroke(`${colour} l l${level}`, path),
+    known.map(i => circle(colour, layout.middle(i), ys[i], ys.length > 40 ? 1 : 2.4))];
 });
 
 // A dot for each value, on a band from the least to the greatest.
 const dots = layout => layout.columns.map((values, i) => {
-  const known = [...new Set(values.filter(isKnown))];
+  const known = [...new Set(values.filter(isKnown))], middle = layout.middle(i);
   if (!known.length) return null;
   const [high, low] = [layout.y(Math.max(...known)), layout.y(Math.min(...known))];
-  return [svg('rect', { class: 'band', x: tenth(layout.middle(i) - 4), y: tenth(high - 4), width: 8,
-    height: tenth(low - high + 8), rx: 4 }),
-  known.map(v => svg('circle', { class: 'dot', cx: layout.middle(i), cy: tenth(layout.y(v)), r: 3.2 }))];
+  return [rectangle('band', middle - 4, high - 4, 8, low - high + 8, { rx: 4 }),
+    known.map(v => circle('dot', middle, tenth(layout.y(v)), 3.2))];
 });
 
-const MARKS = { stack: stacks, share: stacks, group: groups, line: curves, dots };
+const MARKS = { stack: bars(true), share: bars(true), group: bars(false), line: curves, dots };
 
 // A line of a chart is a stroke across each column, with a paler one below it.
-const strokes = layout => layout.lines.map(line => (line.drawn || line.values).map((v, i) => {
-  const beyond = Math.min((layout.slot - layout.fat) / 2, 6);
-  const [from, to] = [tenth(layout.edge(i) - beyond), tenth(layout.edge(i) + layout.fat + beyond)];
-  const d = `M${from} ${tenth(layout.y(number(v)))}H${to}`;
-  return v === null ? null : ['u', line.stroke].map(kind => svg('path', { class: kind, d }));
+const strokes = layout => layout.lines.map(line => drawnValues(line).map((v, i) => {
+  const beyond = Math.min((layout.slot - layout.fat) / 2, 6), from = layout.edge(i) - beyond;
+  const d = `M${tenth(from)} ${tenth(layout.y(number(v)))}H${tenth(layout.edge(i) + layout.fat + beyond)}`;
+  return v === null ? null : ['u', line.stroke].map(kind => stroke(kind, d));
 }));
 
-const ruleOf = (layout, kind, v) =>
-  svg('path', { class: kind, d: `M${tenth(layout.left)} ${tenth(layout.y(v))}H${layout.full - 8}` });
+const ruleOf = (layout, kind, v) => stroke(kind, `M${tenth(layout.left)} ${tenth(layout.y(v))}H${layout.full - 8}`);
 
-function gridOf(layout) {
-  return layout.ticks.map(([v, text]) => [ruleOf(layout, v === 0 ? 'z' : 'g', v),
-    svg('text', { class: 'e', x: tenth(layout.left - 5), y: tenth(layout.y(v) + 3.8) }, text)]);
-}
+const gridOf = layout => layout.ticks.map(([v, text]) =>
+  [ruleOf(layout, v === 0 ? 'z' : 'g', v), label('e', layout.left - 5, layout.y(v) + 3.8, text)]);
 
 // The names of the columns, or of every second, third, .. where they are too long to stand side by side.
 function columnNames(labels, layout) {
-  const longest = Math.min(8, Math.max(...labels.map(label => label.length)));
+  const longest = Math.min(8, Math.max(...labels.map(text => text.length)));
   const every = Math.max(1, Math.ceil((longest * LETTER) / layout.slot));
   const room = Math.max(2, Math.floor((layout.slot * every) / LETTER));
-  return labels.map((label, i) => {
-    if (i % every) return null;
-    const text = label.length > room ? label.slice(0, room - 1) + '\u2026' : label;
-    return svg('text', { class: 'm', x: layout.middle(i), y: HEIGHT + TOP + 16 }, text);
-  });
+  return labels.map((text, i) => (i % every ? null : label('m', layout.middle(i), HEIGHT + TOP + 16,
+    text.length > room ? text.slice(0, room - 1) + '\u2026' : text)));
 }
 
 let pictures = 0;
 
 // A chart as a picture: { picture, light, layout }, where `light` lies behind the column that is told.
 function pictureOf(chart, shown, isWide) {
-  const layout = layoutOf(chart, shown, isWide), id = 'picture' + ++pictures, count = chart.labels.length;
-  const light = svg('rect', { class: 'light', x: 0, y: TOP, width: tenth(layout.slot), height: HEIGHT,
-    visibility: 'hidden' });
-  const says = `${count} column${count > 1 ? 's' : ''} from ${chart.labels[0]} to ${chart.labels[count - 1]}, `
+  const layout = layoutOf(chart, shown, isWide), id = 'picture' + ++pictures, { labels } = chart;
+  const light = rectangle('light', 0, TOP, layout.slot, HEIGHT, { visibility: 'hidden' });
+  const says = `${several(labels.length, 'column')} from ${labels[0]} to ${labels[labels.length - 1]}, `
     + `${shown.length} series. The numbers are in the table below.`;
   const picture = svg('svg', { class: isWide ? 'chart long' : 'chart', role: 'img',
     viewBox: `0 0 ${layout.full} ${HEIGHT + TOP + FOOT}`, 'aria-labelledby': `${id}t ${id}d` },
-  svg('title', { id: id + 't' }, chart.title), svg('desc', { id: id + 'd' }, says),
-  light, gridOf(layout), MARKS[layout.style](layout, shown), strokes(layout), ruleOf(layout, 'z', 0),
-  columnNames(chart.labels, layout));
+  svg('title', { id: id + 't' }, chart.title), svg('desc', { id: id + 'd' }, says), light, gridOf(layout),
+  MARKS[layout.style](layout, shown), strokes(layout), ruleOf(layout, 'z', 0), columnNames(labels, layout));
   return { picture, light, layout };
 }
 
@@ -200,62 +198,54 @@ const MOST_TOLD = 16;
 function toldOf(chart, shown, layout, i) {
   const isShare = layout.style === 'share', hasValue = shown.filter(one => one.values[i]).reverse();
   const text = one => (isShare ? tenth(layout.columns[i][shown.indexOf(one)]) + '\u00a0%' : short(one.values[i]));
-  const row = (mark, name, value) =>
-    html('tr', null, html('td', null, mark), html('th', { scope: 'row' }, name), html('td', null, value));
-  const told = hasValue.slice(0, MOST_TOLD), lines = layout.lines.filter(line => line.values[i] !== null);
-  const rows = told.map(one => row(swatch(one.look), one.name, text(one)));
-  if (hasValue.length > told.length) rows.push(row('', hasValue.length - told.length + ' more', ''));
-  const sum = total(shown.map(one => one.values[i]));
-  if (chart.isSummed && !isShare && told.length > 1) rows.push(row('', 'Sum', short(sum)));
-  rows.push(...lines.map(line => row(strokeSwatch(line.stroke), line.name, short(line.values[i]))));
-  const aloud = [chart.labels[i], ...told.map(one => one.name + ' ' + text(one)),
-    ...lines.map(line => line.name + ' ' + short(line.values[i]))].join(', ');
-  return { rows, aloud };
+  const told = hasValue.slice(0, MOST_TOLD).map(one => [swatch(one.look), one.name, text(one)]);
+  const lines = layout.lines.filter(line => line.values[i] !== null)
+    .map(line => [strokeSwatch(line.stroke), line.name, short(line.values[i])]);
+  const more = hasValue.length - told.length, isSum = chart.isSummed && !isShare && told.length > 1;
+  const others = present([more && ['', more + ' more', ''],
+    isSum && ['', 'Sum', short(total(shown.map(one => one.values[i])))]]);
+  const rows = [...told, ...others, ...lines].map(([mark, name, value]) =>
+    html('tr', null, amount(mark), html('th', { scope: 'row' }, name), amount(value)));
+  return { rows, aloud: [chart.labels[i], ...[...told, ...lines].map(line => line.slice(1).join(' '))].join(', ') };
 }
 
 // Shows it beside a point of the window, and inside of the window.
-function showTip(label, rows, left, top) {
+function showTip(heading, rows, left, top) {
   const tip = byId('tip');
-  tip.replaceChildren(html('b', null, label), html('table', null, html('tbody', null, rows)));
-  tip.hidden = false;
-  const size = tip.getBoundingClientRect(), right = left + 16;
-  tip.style.left = Math.max(4, right + size.width > innerWidth ? left - size.width - 16 : right) + 'px';
-  tip.style.top = Math.max(4, Math.min(top, innerHeight - size.height - 8)) + 'px';
+  tip.replaceChildren(html('b', null, heading), html('table', null, html('tbody', null, rows)));
+  const { width, height } = tip.getBoundingClientRect(), right = left + 16;
+  tip.style.left = Math.max(4, right + width > innerWidth ? left - width - 16 : right) + 'px';
+  tip.style.top = Math.max(4, Math.min(top, innerHeight - height - 8)) + 'px';
 }
 
 // Lets pointer and keys tell the columns of a picture that stands in `holder`.
 function makeTelling(holder, chart, shown, { picture, light, layout }) {
-  const last = chart.labels.length - 1;
+  const last = chart.labels.length - 1, place = () => picture.getBoundingClientRect();
   let at = null;
-  const hide = () => {
-    at = null;
-    byId('tip').hidden = true;
-    light.setAttribute('visibility', 'hidden');
-  };
+  // Tells column `i` beside a point of the window, or nothing where there is no such column.
   const show = (i, left, top) => {
-    at = i;
+    at = i >= 0 && i <= last ? i : null;
+    byId('tip').hidden = at === null;
+    light.setAttribute('visibility', at === null ? 'hidden' : 'visible');
+    if (at === null) return '';
     light.setAttribute('x', tenth(layout.x(i)));
-    light.setAttribute('visibility', 'visible');
     const { rows, aloud } = toldOf(chart, shown, layout, i);
     showTip(chart.labels[i], rows, left, top);
     return aloud;
   };
-  on(holder, 'pointermove', event => {
-    const place = picture.getBoundingClientRect(), x = ((event.clientX - place.left) * layout.full) / place.width;
-    const i = Math.floor((x - layout.left) / layout.slot);
-    if (i >= 0 && i <= last) show(i, event.clientX, event.clientY); else hide();
+  on(holder, 'pointermove', ({ clientX, clientY }) => {
+    const { left, width } = place(), x = ((clientX - left) * layout.full) / width;
+    show(Math.floor((x - layout.left) / layout.slot), clientX, clientY);
   });
-  on(holder, 'pointerleave', hide);
-  on(holder, 'blur', hide);
+  for (const event of ['pointerleave', 'blur']) on(holder, event, () => show(-1));
   on(holder, 'keydown', event => {
-    const [right, left] = at === null ? [0, last] : [at + 1, at - 1];
-    const to = { ArrowRight: right, ArrowLeft: left, Home: 0, End: last }[event.key];
-    if (event.key === 'Escape') hide();
+    const to = { ArrowRight: (at ?? -1) + 1, ArrowLeft: (at ?? last + 1) - 1, Home: 0, End: last }[event.key];
+    if (event.key === 'Escape') show(-1);
     if (to === undefined) return;
     event.preventDefault();
-    const i = Math.max(0, Math.min(last, to)), place = picture.getBoundingClientRect();
-    const x = place.left + ((layout.x(i) + layout.slot / 2) * place.width) / layout.full;
-    byId('live').textContent = show(i, x, place.top + 20);
+    const i = Math.max(0, Math.min(last, to)), { left, top, width } = place();
+    const x = left + ((layout.x(i) + layout.slot / 2) * width) / layout.full;
+    tell(show(i, x, top + 20));
   });
 }
 "##;

@@ -9,10 +9,9 @@ function numbersOf(chart) {
   const columns = [...chart.labels, ...(chart.isBars ? ['Sum'] : [])];
   const rows = chart.series.map(({ name, values }) =>
     ({ name, values: chart.isBars ? [...values, total(values)] : values }));
-  const last = chart.lines.map(({ name, values }) => ({ name, values }));
-  if (chart.isSummed && (rows.length > 1 || chart.isBars))
-    last.unshift({ name: 'Sum', values: columns.map((_, i) => total(rows.map(row => row.values[i]))) });
-  return { columns, rows, last };
+  const isSum = chart.isSummed && (rows.length > 1 || chart.isBars);
+  const sum = { name: 'Sum', values: columns.map((_, i) => total(rows.map(row => row.values[i]))) };
+  return { columns, rows, last: [...(isSum ? [sum] : []), ...chart.lines] };
 }
 
 const quoted = text => (/[",]/.test(text) ? '"' + text.replaceAll('"', '""') + '"' : text);
@@ -23,68 +22,54 @@ function csvOf(chart) {
   return records.map(record => record.map(quoted).join(',') + '\r\n').join('');
 }
 
-const numberRow = (kind, name, values) => html('tr', { class: kind }, html('th', { scope: 'row' }, name),
-  values.map(v => html('td', null, cell(v))));
+// The rows of a table, of the columns from one place to another.
+const numberRows = ({ rows, last }, from, to) => [[rows], [last, 'sum']].map(([list, kind]) =>
+  list.map(({ name, values }) => rowOf(name, values.slice(from, to).map(v => amount(cell(v))), kind)));
 
-const scrolled = (label, content) =>
-  html('div', { class: 'scroll', tabindex: 0, role: 'region', 'aria-label': label }, content);
+const scrolled = (text, content) =>
+  html('div', { class: 'scroll', tabindex: 0, role: 'region', 'aria-label': text }, content);
 
 // The ways in which a click on a heading sorts, one after another: names up first, numbers down first, then as it was.
 const WAYS = { names: [1, -1, 0], numbers: [-1, 1, 0] };
 
 // The table of a chart, sorted by a click on a heading; sums and lines stay below.
-function tableOf(chart) {
-  const { columns, rows, last } = numbersOf(chart), body = html('tbody'), headings = [];
-  let by = null, clicks = 0;
-  const wayNow = () => (by === null ? 0 : WAYS[by < 0 ? 'names' : 'numbers'][clicks % 3]);
+function sortedTable(chart) {
+  const numbers = numbersOf(chart), valueOf = row => (by < 0 ? row.name : row.values[by] || 0n);
+  let by = -1, clicks = -1;
+  const table = tableOf(null, ['Name', ...numbers.columns].map((text, i) =>
+    button(text, { 'aria-label': 'Sort by ' + text }, () => {
+      [by, clicks] = [i - 1, by === i - 1 ? clicks + 1 : 0];
+      fill();
+    })), []);
+  const headings = table.querySelectorAll('th');
   function fill() {
-    const way = wayNow();
-    const less = (a, b) => (by < 0 ? order(a.name, b.name) : order(a.values[by] || 0n, b.values[by] || 0n));
-    const sorted = way ? [...rows].sort((a, b) => way * less(a, b)) : rows;
-    body.replaceChildren(...sorted.map(row => numberRow(null, row.name, row.values)),
-      ...last.map(row => numberRow('sum', row.name, row.values)));
+    const way = clicks < 0 ? 0 : WAYS[by < 0 ? 'names' : 'numbers'][clicks % 3];
+    const rows = way ? [...numbers.rows].sort((a, b) => way * order(valueOf(a), valueOf(b))) : numbers.rows;
+    table.tBodies[0].replaceChildren(...numberRows({ ...numbers, rows }).flat());
     headings.forEach((heading, i) => heading.setAttribute('aria-sort',
       !way || by !== i - 1 ? 'none' : way > 0 ? 'ascending' : 'descending'));
   }
-  function headingOf(text, column) {
-    const click = () => {
-      clicks = by === column ? clicks + 1 : 0;
-      by = column;
-      fill();
-    };
-    headings.push(html('th', { scope: 'col' }, button(text, 'Sort by ' + text, click)));
-    return headings[headings.length - 1];
-  }
-  const heads = html('tr', null, headingOf('Name', -1), columns.map(headingOf));
   fill();
-  return scrolled('Numbers: ' + chart.title, html('table', null, html('thead', null, heads), body));
+  return scrolled('Numbers: ' + chart.title, table);
 }
 
 const PAPER_COLUMNS = 8;
 
 // The table for paper, in blocks of so many columns as a sheet is wide.
 function paperOf(chart) {
-  const { columns, rows, last } = numbersOf(chart), blocks = [];
-  for (let at = 0; at < columns.length; at += PAPER_COLUMNS) {
-    const part = list => list.slice(at, at + PAPER_COLUMNS);
-    const heads = html('tr', null, html('td'), part(columns).map(text => html('th', { scope: 'col' }, text)));
-    blocks.push(html('table', null, html('thead', null, heads), html('tbody', null,
-      rows.map(row => numberRow(null, row.name, part(row.values))),
-      last.map(row => numberRow('sum', row.name, part(row.values))))));
-  }
+  const numbers = numbersOf(chart), { columns } = numbers, blocks = [];
+  for (let from = 0, to = PAPER_COLUMNS; from < columns.length; from = to, to += PAPER_COLUMNS)
+    blocks.push(tableOf(null, ['', ...columns.slice(from, to)], numberRows(numbers, from, to)));
   return html('div', { class: 'paper' }, blocks);
 }
 
 // The folded tables of the page, { details, chart }; each is filled in when it is first opened, printed or taken away.
 const folds = [];
 
-function fillNumbers({ details, chart }) {
-  if (!details.querySelector('.scroll')) details.append(tableOf(chart));
-}
-
-function fillPaper({ details, chart }) {
-  if (!details.querySelector('.paper')) details.append(paperOf(chart));
-}
+const fillWith = (kind, make) => ({ details, chart }) => {
+  if (!details.querySelector(kind)) details.append(make(chart));
+};
+const fillNumbers = fillWith('.scroll', sortedTable), fillPaper = fillWith('.paper', paperOf);
 
 function numbersFold(chart) {
   const details = html('details', { open: state.open ? '' : null },
@@ -102,80 +87,75 @@ const OWN_STYLES = {
   text: ['fill', 'font-family', 'font-size', 'font-weight', 'text-anchor'],
 };
 
-// A copy that has as attributes what the style sheet says of it, since the sheet doesn't go along.
-function withOwnStyles(element) {
-  const copy = element.cloneNode(true);
-  for (const [kinds, styles] of Object.entries(OWN_STYLES)) {
-    const copies = copy.querySelectorAll(kinds);
-    element.querySelectorAll(kinds).forEach((original, i) => {
-      const computed = getComputedStyle(original);
-      for (const name of styles) copies[i].setAttribute(name, computed.getPropertyValue(name));
-    });
-  }
-  return copy;
+// Gives the elements of a picture as attributes what the style sheet says of them, since the sheet doesn't go along.
+function takeStyles(picture) {
+  for (const [kinds, styles] of Object.entries(OWN_STYLES))
+    for (const element of picture.querySelectorAll(kinds)) {
+      const computed = getComputedStyle(element), own = styles.map(name => [name, computed.getPropertyValue(name)]);
+      for (const [name, value] of own) element.setAttribute(name, value);
+    }
+}
+
+// What stands in the legend of a picture: series and lines, as far as they can be seen, { name, look or stroke }.
+function legendItems(chart, shown, layout) {
+  const lines = layout.lines.filter(line => drawnValues(line).some(v => v !== null));
+  return { seen: chart.style === 'dots' ? [] : shown.filter((_, k) => layout.isSeen[k]), lines };
 }
 
 // The picture between its title and its legend. It stands in the page while its styles are taken.
 function svgFileOf(chart, shown, isWide) {
   const { picture, light, layout } = pictureOf(chart, shown, isWide), row = i => HEIGHT + TOP + FOOT + 34 + 16 * i;
   light.remove();
-  const seen = chart.style === 'dots' ? [] : shown.filter((_, k) => layout.isSeen[k]);
-  const legend = [...seen.map(one => [one.name, y => rectangles(one.look, 10, y, 11, 11)]),
-    ...drawnLines(layout).map(line => [line.name, y => svg('path', { class: line.stroke, d: `M10 ${y + 5.5}h11` })])];
-  const height = row(legend.length), patterns = document.querySelector('.defs defs').cloneNode(true);
+  const { seen, lines } = legendItems(chart, shown, layout), count = seen.length, names = [...seen, ...lines];
+  const height = row(names.length), patterns = document.querySelector('.defs defs').cloneNode(true);
   const file = svg('svg', { class: 'chart', viewBox: `0 0 ${layout.full} ${height}`, width: layout.full, height },
-    patterns, svg('rect', { class: 'ground', width: layout.full, height }),
-    svg('text', { class: 'heading', x: 10, y: 18 }, chart.title),
+    patterns, rectangle('ground', 0, 0, layout.full, height), label('heading', 10, 18, chart.title),
     svg('g', { transform: 'translate(0 24)' }, ...picture.childNodes),
-    legend.map(([name, mark], i) => [mark(row(i)), svg('text', { x: 27, y: row(i) + 9.5 }, name)]));
+    seen.map((one, i) => painted(one.look, 10, row(i), 11, 11)),
+    lines.map((line, i) => stroke(line.stroke, `M10 ${row(count + i) + 5.5}h11`)),
+    names.map((one, i) => label(null, 27, row(i) + 9.5, one.name)));
   document.body.append(file);
-  const text = new XMLSerializer().serializeToString(withOwnStyles(file));
+  takeStyles(file);
   file.remove();
-  return text;
+  return new XMLSerializer().serializeToString(file);
 }
 
 // ---- Pictures of bars, a bar for the sum of each series
 
 function barsOf(chart) {
   const sums = chart.series.map(one => total(one.values)), all = total(sums), longest = most([1n, ...sums.map(abs)]);
-  const wanted = Number(state.most), shown = wanted && sums.length > wanted + 1 ? wanted : sums.length;
-  const bar = (v, colour) => {
-    const width = Number((1000n * abs(v)) / longest) / 10;
-    return svg('svg', { viewBox: '0 0 100 11', preserveAspectRatio: 'none', 'aria-hidden': 'true' },
-      svg('rect', { class: v < 0n ? 'cn' : colour, x: 0, y: 0, width, height: 11 }));
-  };
-  const row = (name, v, colour) => html('tr', null, html('th', { scope: 'row' }, name),
-    html('td', { class: 'b' }, bar(v, colour)), html('td', null, short(v)),
-    isChange() ? null : html('td', { class: 'pc' }, share(v, all)));
-  const heads = ['Name', 'Bar', 'Amount', ...(isChange() ? [] : ['Share'])];
-  const rows = chart.series.slice(0, shown).map((one, i) => row(one.name, sums[i], one.look[0]));
-  if (shown < sums.length) rows.push(row(`other (${sums.length - shown})`, total(sums.slice(shown)), 'co'));
-  return html('table', { class: 'bars' }, html('thead', { class: 'vh' }, html('tr', null,
-    heads.map(text => html('th', { scope: 'col' }, text)))), html('tbody', null, rows));
+  const wanted = Number(state.most), count = wanted && sums.length > wanted + 1 ? wanted : sums.length;
+  const bar = (v, colour) => svg('svg', { viewBox: '0 0 100 11', preserveAspectRatio: 'none', 'aria-hidden': 'true' },
+    svg('rect', { class: v < 0n ? 'cn' : colour, width: Number((1000n * abs(v)) / longest) / 10, height: 11 }));
+  const row = (name, v, colour) => rowOf(name, [html('td', { class: 'b' }, bar(v, colour)), amount(short(v)),
+    isChange() ? null : html('td', { class: 'pc' }, share(v, all))]);
+  const rows = chart.series.slice(0, count).map((one, i) => row(one.name, sums[i], one.look[0]));
+  if (count < sums.length) rows.push(row(`other (${sums.length - count})`, total(sums.slice(count)), 'co'));
+  const table = tableOf('bars', ['Name', 'Bar', 'Amount', ...(isChange() ? [] : ['Share'])], rows);
+  table.tHead.className = 'vh';
+  return table;
 }
 
 // ---- Figures
 
-const drawnLines = layout => layout.lines.filter(line => (line.drawn || line.values).some(v => v !== null));
-
 // The legend of a picture: a click takes a series out of it or puts it back.
 function legendOf(view, shown, layout) {
-  const { chart, hidden, legend } = view;
+  const { chart, hidden, legend } = view, { seen, lines } = legendItems(chart, shown, layout);
   const click = name => {
     if (!hidden.delete(name)) hidden.add(name);
     draw(view);
     const again = [...legend.querySelectorAll('button')].find(one => one.textContent === name);
     if (again) again.focus();
   };
-  const item = ({ name, look }) => {
-    const isIn = { type: 'button', 'aria-pressed': String(!hidden.has(name)) };
-    return html('li', null, on(html('button', isIn, swatch(look), name), 'click', () => click(name)));
-  };
-  const seen = shown.filter((_, k) => layout.isSeen[k]), unseen = shown.length - seen.length;
-  return [...chart.series.filter(one => seen.includes(one) || hidden.has(one.name)).map(item),
-    ...seen.filter(one => !chart.series.includes(one)).map(one => html('li', null, swatch(one.look), one.name)),
-    ...drawnLines(layout).map(line => html('li', null, strokeSwatch(line.stroke), line.name)),
-    ...(unseen ? [html('li', null, `${unseen} too small to be seen`)] : [])];
+  const named = chart.series.filter(one => seen.includes(one) || hidden.has(one.name));
+  const unseen = chart.style === 'dots' ? 0 : shown.length - seen.length;
+  return [
+    ...named.map(({ name, look }) =>
+      button([swatch(look), name], { 'aria-pressed': String(!hidden.has(name)) }, () => click(name))),
+    ...seen.filter(one => !chart.series.includes(one)).map(one => [swatch(one.look), one.name]),
+    ...lines.map(line => [strokeSwatch(line.stroke), line.name]),
+    ...(unseen ? [`${unseen} too small to be seen`] : []),
+  ].map(content => html('li', null, content));
 }
 
 // Draws the picture and the legend of a view: { chart, place, legend, hidden, isWide }, where `hidden` has the names
@@ -188,37 +168,39 @@ function draw(view) {
     'aria-label': chart.title + '. The arrow keys read the columns.' }, drawing.picture);
   makeTelling(holder, chart, shown, drawing);
   place.replaceChildren(holder);
-  legend.replaceChildren(...(chart.style === 'dots' ? [] : legendOf(view, shown, drawing.layout)));
+  legend.replaceChildren(...legendOf(view, shown, drawing.layout));
 }
 
-function copyButton(chart) {
-  const tell = text => { byId('live').textContent = text; };
-  const copy = () => navigator.clipboard.writeText(csvOf(chart).replaceAll('\r\n', '\n'))
-    .then(() => tell('Copied.'), () => tell('Not copied.'));
-  return navigator.clipboard ? button('Copy', 'Copy the numbers: ' + chart.title, copy) : null;
+function widen(view, { currentTarget }) {
+  view.isWide = !view.isWide;
+  currentTarget.closest('figure').classList.toggle('wide', view.isWide);
+  currentTarget.setAttribute('aria-pressed', String(view.isWide));
+  draw(view);
 }
 
-function toolsOf(view) {
-  const { chart } = view;
-  const widen = event => {
-    view.isWide = !view.isWide;
-    event.currentTarget.closest('figure').classList.toggle('wide', view.isWide);
-    event.currentTarget.setAttribute('aria-pressed', String(view.isWide));
-    draw(view);
-  };
-  const saveCsv = () => save(chart.title + '.csv', csvOf(chart), 'text/csv');
-  const saveSvg = () =>
-    save(chart.title + '.svg', svgFileOf(chart, shownSeries(chart, view.hidden), view.isWide), 'image/svg+xml');
-  return html('div', { class: 'tools' }, chart.isBars ? null : button('Wide', 'Wide: ' + chart.title, widen),
-    copyButton(chart), button('CSV', 'Download the numbers: ' + chart.title, saveCsv),
-    chart.isBars ? null : button('SVG', 'Download the picture: ' + chart.title, saveSvg));
-}
+const copy = ({ chart }) => navigator.clipboard.writeText(csvOf(chart).replaceAll('\r\n', '\n'))
+  .then(() => tell('Copied.'), () => tell('Not copied.'));
+const saveCsv = ({ chart }) => save(chart.title + '.csv', csvOf(chart), 'text/csv');
+const saveSvg = ({ chart, hidden, isWide }) =>
+  save(chart.title + '.svg', svgFileOf(chart, shownSeries(chart, hidden), isWide), 'image/svg+xml');
+
+// The buttons of a figure: the text, what is read aloud, what is done, and whether it can be.
+const TOOLS = [
+  ['Wide', 'Wide', widen, chart => !chart.isBars],
+  ['Copy', 'Copy the numbers', copy, () => navigator.clipboard],
+  ['CSV', 'Download the numbers', saveCsv, () => true],
+  ['SVG', 'Download the picture', saveSvg, chart => !chart.isBars],
+];
+
+const toolsOf = view => html('div', { class: 'tools' },
+  TOOLS.filter(([, , , isFor]) => isFor(view.chart)).map(([text, aloud, act]) =>
+    button(text, { 'aria-label': `${aloud}: ${view.chart.title}` }, event => act(view, event))));
 
 const asChange = chart => ({ ...chart, title: chart.isBars ? chart.title : chart.title + ': change',
   sub: `${chart.sub}; ${plans[1].file} minus ${plans[0].file}` });
 
-const captionOf = (title, sub) => html('figcaption', null, html('h4', null, title), html('p', { class: 'sub' }, sub));
-const noteOf = text => (text ? html('p', { class: 'note' }, text) : null);
+const captionOf = (title, sub) => html('figcaption', null, html('h4', null, title), paragraph('sub', sub));
+const noteOf = text => (text ? paragraph('note', text) : null);
 
 // A chart between its title and its buttons; null where all is 0.
 function figureOf(plain) {
@@ -231,11 +213,8 @@ function figureOf(plain) {
     numbersFold(chart));
 }
 
-// A table for reading, as a figure as wide as the page: columns are { text, kind }.
-function tellingFigure(title, sub, columns, rows, note) {
-  const heads = html('tr', null, columns.map(({ text, kind }) => html('th', { scope: 'col', class: kind }, text)));
-  const table = html('table', { class: 'glance' }, html('thead', null, heads), html('tbody', null, rows));
-  return html('figure', { class: 'wide' }, captionOf(title, sub), rows.length ? scrolled(title, table) : null,
-    noteOf(note));
-}
+// A table for reading, and a figure of one, as wide as the page.
+const glance = (title, headings, rows) => scrolled(title, tableOf('glance', headings, rows));
+const tellingFigure = (title, sub, headings, rows, note) => html('figure', { class: 'wide' }, captionOf(title, sub),
+  rows.length ? glance(title, headings, rows) : null, noteOf(note));
 "##;

@@ -4,72 +4,57 @@
 pub(crate) const SCRIPT_PAGE: &[u8] = br##"
 // ---- Sections
 
-const present = list => list.filter(item => item);
 const gridOfFigures = figures => html('div', { class: 'grid' }, figures);
-const aside = text => html('p', { class: 'none' }, text);
+const aside = text => paragraph('none', text);
 
 // What is asked for in the first year and in the last, and who makes most of it.
 function demandFigure(scope) {
-  if (isChange()) return null;
-  const ends = years.length > 1 ? [firstYear, lastYear] : [firstYear];
+  const ends = [...new Set([firstYear, lastYear])], heads = ends.flatMap(year => [year, ['mostly from', 'w']]);
   const way = ({ fuel, name, share: part }, i) =>
     html('span', { class: 'way' }, `${i ? ' and' : ''} its ${fuel}: ${name} ${part}`);
   const cells = (fuel, asked) => ends.map(year => {
     const [first, ...rest] = makersOf(scope, fuel, year);
-    const told = first ? [first.name + ' ', html('b', null, first.share), rest.map(way)] : '\u2013';
-    return [html('td', null, short(asked[years.indexOf(year)])), html('td', { class: 'w' }, told)];
+    return [amount(short(asked[years.indexOf(year)])),
+      words(first ? [first.name + ' ', html('b', null, first.share), rest.map(way)] : '\u2013')];
   });
   const rows = names.FUEL.map(fuel => [fuel, demandOf(scope, fuel)]).filter(([, asked]) => isSome(asked))
-    .map(([fuel, asked]) => html('tr', null, html('th', { scope: 'row' }, fuel), cells(fuel, asked)));
-  const columns = [{ text: '' }, ...ends.flatMap(year => [{ text: year }, { text: 'mostly from', kind: 'w' }])];
+    .map(([fuel, asked]) => rowOf(fuel, cells(fuel, asked)));
   return rows.length ? tellingFigure('What is asked for, and who makes most of it',
-    'energy of a year, in units of the data file', columns, rows) : null;
+    'energy of a year, in units of the data file', ['', ...heads], rows) : null;
 }
 
 const MOST_LIMITS = 10;
 
 function limitFigure(scope) {
-  if (isChange()) return null;
   const all = limitsOf(scope), shown = all.slice(0, Number(state.most) ? MOST_LIMITS : all.length);
-  const rows = shown.map(limit => html('tr', null,
-    html('th', { scope: 'row', class: 'w' }, (scope.length > 1 ? limit.region + ': ' : '') + limit.text),
-    html('td', { class: 'w' }, limit.years.length ? several(limit.years) : ''),
-    html('td', null, limit.bounds.length ? shortRange(limit.bounds) : ''),
-    html('td', null, limit.bounds.length ? short(limit.percent) : ''),
-    html('td', null, short(limit.unit))));
-  const columns = [{ text: 'Limit', kind: 'w' }, { text: 'in', kind: 'w' }, { text: 'at' },
-    { text: '1\u00a0% looser' }, { text: 'a unit looser' }];
+  const rows = shown.map(({ text, times, bounds, percent, unit }) => rowOf(text, [words(times.length && firstOf(times)),
+    amount(bounds.length && shortRange(bounds)), amount(bounds.length && short(percent)), amount(short(unit))]));
   const note = !all.length ? 'No limit on capacity, activity or emissions raises the cost.'
     : all.length > shown.length ? `${all.length - shown.length} more limits have a price.` : null;
   return tellingFigure('Which limits cost most',
-    'discounted money that looser limits save at most, in all the years that are told', columns, rows, note);
+    'discounted money that looser limits save at most, in all the years that are told',
+    [['Limit', 'w'], ['in', 'w'], 'at', '1\u00a0% looser', 'a unit looser'], rows, note);
 }
-
-const fuelSection = (title, figures) =>
-  html('section', { class: 'fuel' }, html('h3', null, title), gridOfFigures(figures));
 
 // Costs, emissions and limits of the regions of a scope.
 function costFigures(scope) {
   const emissions = names.EMISSION.map(emission => [emission, figureOf(emissionChart(scope, emission))]);
   const without = emissions.filter(([, figure]) => !figure).map(([emission]) => emission).join(', ');
-  const told = isChange() ? 'Emissions without a change: ' : 'No emissions of ';
-  return present([demandFigure(scope), figureOf(costChart(scope)), figureOf(technologyCostChart(scope)),
-    ...emissions.map(([, figure]) => figure), limitFigure(scope), without && aside(told + without + '.')]);
+  const told = without && (isChange() ? 'Emissions without a change: ' : 'No emissions of ') + without + '.';
+  return present([!isChange() && demandFigure(scope), figureOf(costChart(scope)), figureOf(technologyCostChart(scope)),
+    ...emissions.map(([, figure]) => figure), !isChange() && limitFigure(scope), told && aside(told)]);
 }
 
 // Everything that is shown of a region, or of all together.
 function scopeSection(scope, title) {
-  const parts = [title ? html('h2', null, title) : null, gridOfFigures(costFigures(scope))], without = [];
-  for (const fuel of state.fuel ? [state.fuel] : fuelsOf(scope)) {
-    const figures = present(fuelCharts(scope, fuel).map(figureOf));
-    if (figures.length) parts.push(fuelSection(fuel, figures)); else without.push(fuel);
-  }
-  const idle = state.fuel ? [] : [['Capacity', 'TotalCapacityAnnual'], ['New capacity', 'NewCapacity']];
-  const figures = present(idle.map(([heading, table]) => figureOf(idleChart(heading, table, scope))));
-  if (figures.length) parts.push(fuelSection('Technologies that make no fuel', figures));
-  const told = isChange() ? 'Fuels without a change: ' : 'Neither made nor asked for: ';
-  if (without.length) parts.push(aside(told + without.join(', ') + '.'));
-  return html('section', { class: 'region' }, parts);
+  const costs = gridOfFigures(costFigures(scope)), figuresOf = charts => present(charts.map(figureOf));
+  const fuels = (state.fuel ? [state.fuel] : fuelsOf(scope)).map(fuel => [fuel, figuresOf(fuelCharts(scope, fuel))]);
+  const idle = state.fuel ? [] : figuresOf(IDLE_CHARTS.map(spec => tableChart(spec, scope, '')));
+  const sections = [...fuels, ['Technologies that make no fuel', idle]].filter(([, figures]) => figures.length)
+    .map(([name, figures]) => html('section', { class: 'fuel' }, html('h3', null, name), gridOfFigures(figures)));
+  const without = fuels.filter(([, figures]) => !figures.length).map(([fuel]) => fuel).join(', ');
+  const told = without && (isChange() ? 'Fuels without a change: ' : 'Neither made nor asked for: ') + without + '.';
+  return html('section', { class: 'region' }, title && html('h2', null, title), costs, sections, told && aside(told));
 }
 
 // The regions beside each other, where there are several.
@@ -83,53 +68,48 @@ const regionFigures = () => present([
 const TOGETHER = '*', EACH = '+';
 
 function render() {
+  const { region } = state, all = names.REGION, chosen = all.filter((_, i) => region === EACH || region === String(i));
   folds.length = 0;
-  const parts = names.REGION.length > 1 ? [gridOfFigures(regionFigures())] : [];
-  if (names.REGION.length < 2) parts.push(scopeSection(names.REGION));
-  else if (state.region === TOGETHER) parts.push(scopeSection(names.REGION, 'All regions together'));
-  else for (const region of state.region === EACH ? names.REGION : [names.REGION[Number(state.region)]])
-    parts.push(scopeSection([region], region));
-  byId('main').replaceChildren(...parts);
+  byId('main').replaceChildren(...(all.length < 2 ? [scopeSection(all)] : [gridOfFigures(regionFigures()),
+    ...(region === TOGETHER ? [scopeSection(all, 'All regions together')]
+      : chosen.map(one => scopeSection([one], one)))]));
   history.replaceState(null, '', '#' + new URLSearchParams(state));
 }
 
 // ---- Choices
 
 const STYLES = [['stack', 'stacked'], ['group', 'side by side'], ['line', 'lines'], ['share', 'per cent']];
+const VIEWS = ['first', 'second'];
 const MOSTS = [['12', 'the 12 largest'], ['6', 'the 6 largest'], ['0', 'all']];
 
-// What can be chosen of each part of the state: the values with their names. A list of one isn't shown.
+// What can be chosen of each part of the state, the values with their names; not where there is one alone.
 function choices() {
-  const regions = names.REGION.map((region, i) => [String(i), region]);
+  const ofMany = (list, choice) => (list.length > 1 ? choice : []), itself = name => [name, name];
   return [
-    ['Show', 'view', areTwo ? [['change', 'What changes'], ['first', plans[0].file], ['second', plans[1].file]]
-      : [['only', plans[0].file]]],
-    ['Region', 'region', regions.length < 2 ? [['', '']]
-      : [[TOGETHER, 'All together'], [EACH, 'Each, one after another'], ...regions]],
-    ['Fuel', 'fuel', names.FUEL.length > 1 ? [['', 'All fuels'], ...names.FUEL.map(fuel => [fuel, fuel])] : [['', '']]],
+    ['Show', 'view', ofMany(plans, [['change', 'What changes'], ...plans.map((plan, i) => [VIEWS[i], plan.file])])],
+    ['Region', 'region', ofMany(names.REGION, [[TOGETHER, 'All together'], [EACH, 'Each, one after another'],
+      ...names.REGION.map((region, i) => [String(i), region])])],
+    ['Fuel', 'fuel', ofMany(names.FUEL, [['', 'All fuels'], ...names.FUEL.map(itself)])],
     ['Charts', 'style', STYLES],
-    ['Timeslices of', 'year', names.TIMESLICE.length > 1 ? years.map(year => [year, year]) : [[lastYear, lastYear]]],
+    ['Timeslices of', 'year', ofMany(names.TIMESLICE, years.map(itself))],
     ['Technologies', 'most', MOSTS],
-  ];
+  ].filter(([, , options]) => options.length > 1);
 }
 
-function choiceOf([label, part, options]) {
-  const select = html('select', null, options.map(([value, text]) =>
-    html('option', { value, selected: state[part] === value ? '' : null }, text)));
-  on(select, 'change', () => {
-    state[part] = select.value;
+// A control that changes a part of the state, and its label.
+function choiceOf(text, part, control, valueOf, after) {
+  on(control, 'change', () => {
+    state[part] = valueOf(control);
     render();
   });
-  return html('label', null, html('span', null, label), select);
+  return html('label', null, html('span', null, text), after ? html('span', null, control, after) : control);
 }
 
-function openBox() {
-  const box = on(html('input', { type: 'checkbox', checked: state.open ? '' : null }), 'change', () => {
-    state.open = box.checked ? '1' : '';
-    render();
-  });
-  return html('label', null, html('span', null, 'Numbers'), html('span', null, box, ' open'));
-}
+const selectOf = ([text, part, options]) => choiceOf(text, part, html('select', null, options.map(([value, name]) =>
+  html('option', { value, selected: state[part] === value ? '' : null }, name))), select => select.value);
+
+const openBox = () => choiceOf('Numbers', 'open',
+  html('input', { type: 'checkbox', checked: state.open ? '' : null }), box => (box.checked ? '1' : ''), ' open');
 
 const saveTables = () => plans.forEach(plan => save(plan.file + '.tables.csv', plan.text, 'text/csv'));
 
@@ -141,6 +121,11 @@ function saveStill() {
   copy.querySelectorAll('button').forEach(element => element.replaceWith(...element.childNodes));
   save(plans.map(plan => plan.file).join(' ') + '.html', '<!DOCTYPE html>\n' + copy.outerHTML, 'text/html');
 }
+
+const showBar = () => byId('bar').replaceChildren(
+  ...choices().map(selectOf), openBox(),
+  button('All tables', { 'aria-label': 'Download all tables' }, saveTables),
+  button('Still page', { 'aria-label': 'Download this page without its script' }, saveStill));
 
 // The state as the address has it, as far as it can be chosen, and else as it stands.
 function readAddress() {
@@ -154,68 +139,43 @@ function readAddress() {
 
 // ---- Headlines
 
-const facts = list => html('dl', null, list.filter(([, value]) => value !== undefined)
-  .map(([name, value]) => html('div', null, html('dt', null, name), html('dd', null, value))));
+const headline = (lab, big, mark, say, facts) => html('section', { class: 'top' },
+  html('div', null, paragraph('lab', lab), paragraph('num', big)),
+  html('div', null, paragraph('mark', mark), paragraph('say', say)),
+  html('dl', null, facts.filter(([, value]) => value !== undefined)
+    .map(([name, value]) => html('div', null, html('dt', null, name), html('dd', null, value)))));
 
-const headline = ({ label, big, mark, say, list }) => html('section', { class: 'top' },
-  html('div', null, html('p', { class: 'lab' }, label), html('p', { class: 'num' }, big)),
-  html('div', null, html('p', { class: 'mark' }, mark), html('p', { class: 'say' }, say)), facts(list));
-
-const SAYS = {
-  least:
-    'This plan meets every equation of the model exactly, and no other plan that does costs less, not by a '
-    + 'millionth. Both were checked in fractions of whole numbers; nothing was rounded on the way.',
-  near:
-    'This plan meets every equation of the model exactly, and no plan that does costs less than the bound: so '
-    + 'a cheaper one saves @ at most. Both were checked in fractions of whole numbers.',
-  bothLeast:
-    'Both plans are proved to be the cheapest of their data. So this is what the change of the data costs, or '
-    + 'saves where it is below 0.',
-  notBothLeast:
-    'Not both plans are proved to be the cheapest of their data. The least cost of each file lies between the '
-    + 'bound and the cost of its plan, so the least costs may differ by anything between the two proved '
-    + 'numbers; what stands beside them is the difference of the two plans that were found.',
-  infeasible:
-    'The limits and demands of this file can\u2019t all be met, by no plan whatever. This was shown by adding '
-    + 'up the model\u2019s own equations to a contradiction, in whole numbers, without rounding.',
-  unbounded:
-    'Plans of any lower cost exist: more and more of what stands below lowers the cost, and no limit stops '
-    + 'it. Most often a cost has the wrong sign, or a limit is missing.',
-};
+// What the head says in whole sentences stands in the page.
+const sentence = name => byId(name).content.cloneNode(true);
 
 function headOfOne(plan) {
   const [cost, costOver] = plan.fraction('cost'), [bound, boundOver] = plan.fraction('bound');
   const [gap, gapOver] = plan.fraction('gap');
   const saved = roundedUp(gap, gapOver), parts = bound > 0n ? roundedUp(gap * boundOver, gapOver * bound) : null;
-  const mark = plan.isLeast ? 'Proved: no plan costs less'
-    : parts === null ? 'Proved: no plan costs less than the bound'
-      : `Proved: at most ${parts} millionth${parts === 1n ? '' : 's'} above the least cost`;
+  const mark = plan.isLeast ? 'no plan costs less' : parts === null ? 'no plan costs less than the bound'
+    : `at most ${several(parts, 'millionth')} above the least cost`;
   const costShown = nearest(cost * UNIT, costOver);
-  return headline({ label: 'Total cost, discounted to the beginning of ' + firstYear, big: short(costShown), mark,
-    say: plan.isLeast ? SAYS.least : SAYS.near.replace('@', decimal(saved)),
-    list: [['Cost', cell(costShown)], ['Bound', cell(nearest(bound * UNIT, boundOver))], ['Gap', cell(saved)],
-      ['Numbers rounded when read', plan.word('rounded')], ['Decimal places of factors', plan.word('places')]] });
+  return headline('Total cost, discounted to the beginning of ' + firstYear, short(costShown), 'Proved: ' + mark,
+    plan.isLeast ? sentence('least') : sentence('near').textContent.replace('@', decimal(saved)),
+    [['Cost', cell(costShown)], ['Bound', cell(nearest(bound * UNIT, boundOver))], ['Gap', cell(saved)],
+      ['Numbers rounded when read', plan.word('rounded')], ['Decimal places of factors', plan.word('places')]]);
 }
 
-// The five lines of `compare`: a word, and what it says.
-function comparedWords() {
-  const lines = document.querySelector('.compared').textContent.split('\n').map(line => line.split(' '));
-  return name => (lines.find(([word]) => word === name) || []).slice(1);
-}
-
+// Of the lines of `compare` that the page has, a word and what it says.
 function headOfTwo() {
-  const words = comparedWords(), [costs, bounds, [low, high]] = ['cost', 'bound', 'difference'].map(words);
-  const change = whole(costs[2], 6), [before, after] = plans.map(plan => plan.file);
-  const isSmall = change !== null && abs(change) < NOISE, sign = change !== null && change > 0n && !isSmall ? '+' : '';
+  const said = wordsOf(document.querySelector('.compared').textContent);
+  const [status, costs, bounds, [low, high]] = ['status', 'cost', 'bound', 'difference']
+    .map(word => (said.get(word) || '').split(' '));
+  const change = whole(costs[2], 6), isSmall = change !== null && abs(change) < NOISE;
+  const sign = change !== null && change > 0n && !isSmall ? '+' : '';
   const between = low === high ? 'exactly ' + low : `at least ${low} and at most ${high}`;
-  return headline({ label: 'Total cost, discounted, changes by',
-    big: change === null ? costs[2] : sign + short(isSmall ? 0n : change),
-    mark: whole(low, 6) === null ? 'What the least cost changes by is not known'
+  return headline('Total cost, discounted, changes by',
+    change === null ? costs[2] : sign + short(isSmall ? 0n : change),
+    whole(low, 6) === null ? 'What the least cost changes by is not known'
       : 'Proved: the least cost changes by ' + between,
-    say: words('status').join(' ') === 'least least' ? SAYS.bothLeast : SAYS.notBothLeast,
-    list: [['Cost of ' + before, costs[0]], ['Bound of ' + before, bounds[0]], ['Cost of ' + after, costs[1]],
-      ['Bound of ' + after, bounds[1]], ['Least costs differ by at least', low],
-      ['Least costs differ by at most', high]] });
+    status.every(word => word === 'least') ? sentence('both-least') : sentence('not-both-least'),
+    [...plans.flatMap(({ file }, i) => [['Cost of ' + file, costs[i]], ['Bound of ' + file, bounds[i]]]),
+      ['Least costs differ by at least', low], ['Least costs differ by at most', high]]);
 }
 
 // The members that only one of the two files has.
@@ -224,120 +184,71 @@ const onlyIn = (plan, other) => SETS.flatMap(set => {
   return plan.members(set).filter(member => !known.has(member)).map(member => set + ' ' + member);
 });
 
-const onlyNotes = () => [[plans[0], plans[1]], [plans[1], plans[0]]]
-  .map(([plan, other]) => [plan.file, onlyIn(plan, other)]).filter(([, list]) => list.length)
-  .map(([file, list]) => aside(`Only in ${file}: ${list.join(', ')}.`));
-
-const say = (...content) => html('p', { class: 'say' }, content);
-const badHead = (mark, ...content) =>
-  html('section', { class: 'top bad' }, html('p', { class: 'mark' }, mark), content);
-
-function headOfInfeasible() {
-  const ask = say('To see which few limits clash: ', html('code', null, 'osemosys explain FILE'), '.');
-  return badHead('No plan exists', say(SAYS.infeasible), ask);
-}
+const onlyNotes = () => plans.map((plan, i) => [plan.file, onlyIn(plan, plans[1 - i])])
+  .filter(([, list]) => list.length).map(([file, list]) => aside(`Only in ${file}: ${list.join(', ')}.`));
 
 function headOfUnbounded(plan) {
   const columns = ['REGION', '_REGION', 'TECHNOLOGY', 'FUEL', 'TIMESLICE', 'MODE_OF_OPERATION', 'YEAR'];
   const told = (row, name) => (name === 'MODE_OF_OPERATION' ? 'mode ' : '') + row[name];
   const members = row => columns.filter(name => row[name]).map(name => told(row, name)).join(', ');
-  const rows = ['RateOfActivity', 'NewCapacity', 'Trade'].flatMap(table => plan.all(table).map(row => html('tr', null,
-    html('th', { scope: 'row', class: 'w' }, table), html('td', { class: 'w' }, members(row)),
-    html('td', null, cell(row.VALUE)))));
-  const heads = html('tr', null, html('th', { scope: 'col', class: 'w' }, 'What grows'),
-    html('th', { scope: 'col', class: 'w' }, 'of'), html('th', { scope: 'col' }, 'by'));
-  const table = html('table', { class: 'glance' }, html('thead', null, heads), html('tbody', null, rows));
-  return badHead('The cost falls without end', say(SAYS.unbounded), scrolled('What grows', table));
+  const rows = ['RateOfActivity', 'NewCapacity', 'Trade'].flatMap(table => plan.all(table)
+    .map(row => rowOf(table, [words(members(row)), amount(cell(row.VALUE))])));
+  return [sentence('unbounded'), glance('What grows', [['What grows', 'w'], ['of', 'w'], 'by'], rows)];
 }
 
-// ---- The foot
+const badHead = plan => html('section', { class: 'top bad' },
+  plan.said.startsWith('accepted unbounded') ? headOfUnbounded(plan) : sentence('infeasible'));
 
-// What is said below of a page of one plan, of two, or of both.
-const NOTES = [
-  { name: 'Numbers', of: 'both', says:
-    'are those of the plan, rounded to six decimal places; sums on this page are sums of these, and what is '
-    + 'told under the pointer and in headlines is rounded further. 0 stands as 0. Units are those of the data '
-    + 'file.' },
-  { name: 'Changes', of: 'two', says:
-    'are the value in the second plan less the value in the first; less than two millionths isn\u2019t told, '
-    + 'since it may come of rounding alone. Another plan of the same cost may differ otherwise, and where '
-    + 'several numbers of the data were changed, no difference is shown to come of a single one of them.' },
-  { name: 'What is proved', of: 'two', says:
-    'is what stands beside the headline: between which two numbers the least costs of the two files differ, '
-    + 'and the text that this page is drawn from.' },
-  { name: 'Names', of: 'two', says:
-    'decide what is the same region, technology, fuel, emission or year. One that a file doesn\u2019t have '
-    + 'counts as 0 in its plan.' },
-  { name: 'Discounted', of: 'both', says:
-    'money is worth at the beginning of the first year. Investments count at the beginning of their year, '
-    + 'running costs and penalties in its middle, salvage values after the last year.' },
-  { name: 'Capacity', of: 'both', says:
-    'stands by what it makes. A technology that makes several fuels stands at each of them. A technology has '
-    + 'one colour and pattern on the whole page, and in every page of the same data file.' },
-  { name: 'Other', of: 'both', says:
-    'stands for the smallest series of a picture: those beyond the number that is chosen, and those whose '
-    + 'every value is below a ten-thousandth of all. The numbers have each by itself.' },
-  { name: 'Prices', of: 'one', says:
-    'are proved from below: if more of a fuel is asked for in a timeslice, every plan costs at least the '
-    + 'bound and the price times the amount more, discounted. That this is reached isn\u2019t promised. A price '
-    + 'that isn\u2019t listed is 0.' },
-  { name: 'What looser limits save', of: 'one', says:
-    'is proved from above: with the limit looser by some amount, no plan costs less than the bound less that '
-    + 'much.' },
-  { name: 'All regions together', of: 'both', says:
-    'are their sums; trade between them, limits on emissions and prices stand with each region.' },
-];
+// The changes that were made to the data of a plan, as they stand in their file.
+const changesFold = plan => plan.made && html('details', { class: 'made' },
+  html('summary', null, areTwo ? plan.file : plan.made), html('pre', null, plan.changed.join('\n')));
+
+function showHead(isSolved) {
+  const where = names.REGION.length > 1 ? names.REGION.length + ' regions' : names.REGION[0];
+  const span = present([where, years.length > 1 ? firstYear + ' to ' + lastYear : firstYear]).join(', ');
+  const [first, second] = plans, title = areTwo ? second.file + ' against ' + first.file : span;
+  document.title = areTwo ? title : first.file + ': ' + span;
+  const head = !isSolved ? [badHead(first)] : areTwo ? [headOfTwo(), ...onlyNotes()] : [headOfOne(first)];
+  const over = areTwo ? 'What changes between two plans' : isSolved ? 'Energy plan of least cost' : 'Energy plan';
+  byId('head').replaceChildren(...present([paragraph('over', over), html('h1', null, title),
+    paragraph('file', areTwo ? span : first.file), ...plans.map(changesFold), ...head]));
+}
+
+// ---- The foot, and the start
 
 // By the checksum anyone can see that the text of this page is the one that is proved.
 const checksumNote = plan => html('li', null, html('b', null, 'SHA-256'), ` of the tables of ${plan.file}: `,
   html('code', { class: 'sum' }, sha256(plan.text)), '.');
 
-// `table` prints them where there is a plan.
-const checksumRule = () => html('li', null, html('code', null, 'osemosys table FILE PROOF page | sha256sum'),
-  ' prints the same, of the files and with the options that this page was made of.');
-
-const footOf = isSolved => [html('h2', null, isSolved ? 'How to read this page' : 'How to check this page'),
-  html('ul', null, NOTES.filter(note => isSolved && note.of !== (areTwo ? 'one' : 'two'))
-    .map(({ name, says }) => html('li', null, html('b', null, name), ' ' + says)), plans.map(checksumNote),
-    isSolved ? checksumRule() : [])];
-
-// ---- The start
+// The notes stand in the page, of one plan, of two or of both.
+function showFoot(isSolved) {
+  const foot = byId('foot'), kinds = !isSolved ? '.one, .two, .both' : areTwo ? '.one' : '.two';
+  foot.querySelector('li:last-child').before(...plans.map(checksumNote));
+  foot.querySelectorAll(kinds).forEach(note => note.remove());
+  if (!isSolved) foot.querySelector('h2').textContent = 'How to check this page';
+  foot.hidden = false;
+}
 
 // Paper shows all numbers; what was folded is folded again afterwards.
 function openForPrint() {
-  const opened = [];
-  on(window, 'beforeprint', () => folds.forEach(fold => {
-    fillPaper(fold);
-    if (fold.details.open) return;
-    opened.push(fold.details);
-    fold.details.open = true;
-  }));
-  on(window, 'afterprint', () => opened.splice(0).forEach(details => { details.open = false; }));
-}
-
-function showHead(isSolved) {
-  const where = names.REGION.length > 1 ? names.REGION.length + ' regions' : names.REGION[0] || '';
-  const span = [where, years.length > 1 ? firstYear + ' to ' + lastYear : firstYear].filter(text => text).join(', ');
-  const title = areTwo ? plans[1].file + ' against ' + plans[0].file : span;
-  document.title = areTwo ? title : plans[0].file + ': ' + span;
-  const isUnbounded = plans[0].said.startsWith('accepted unbounded');
-  const head = !isSolved ? [isUnbounded ? headOfUnbounded(plans[0]) : headOfInfeasible()]
-    : areTwo ? [headOfTwo(), ...onlyNotes()] : [headOfOne(plans[0])];
-  const over = areTwo ? 'What changes between two plans' : isSolved ? 'Energy plan of least cost' : 'Energy plan';
-  byId('head').replaceChildren(html('p', { class: 'over' }, over), html('h1', null, title),
-    html('p', { class: 'file' }, areTwo ? span : plans[0].file), ...head);
+  let folded = [];
+  const setOpen = isOpen => folded.forEach(details => { details.open = isOpen; });
+  on(window, 'beforeprint', () => {
+    folds.forEach(fillPaper);
+    folded = folds.map(fold => fold.details).filter(details => !details.open);
+    setOpen(true);
+  });
+  on(window, 'afterprint', () => setOpen(false));
 }
 
 function start() {
   const isSolved = plans.every(plan => plan.said.startsWith('accepted\n'));
   showHead(isSolved);
+  showFoot(isSolved);
   document.documentElement.classList.add('drawn');
-  byId('foot').replaceChildren(...footOf(isSolved));
   if (!isSolved) return byId('main').replaceChildren();
   readAddress();
-  byId('bar').replaceChildren(...choices().filter(([, , options]) => options.length > 1).map(choiceOf), openBox(),
-    button('All tables', 'Download all tables', saveTables),
-    button('Still page', 'Download this page without its script', saveStill));
+  showBar();
   render();
   openForPrint();
 }

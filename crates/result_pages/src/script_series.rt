@@ -5,10 +5,12 @@ pub(crate) const SCRIPT_SERIES: &[u8] = br##"
 // ---- What is shown. A chart is { title, sub, labels, series, lines, note, style, isBars, isSummed }: a series is
 // { name, look, values }, a line { name, stroke, values, drawn }, with a value, or null, for each label.
 
+const chartOf = (title, sub, series, more) =>
+  ({ title, sub, series, labels: years, lines: [], isSummed: true, ...more });
+
 // What the reader has chosen; the address keeps it.
-const state = {
-  region: '', fuel: '', style: 'stack', most: '12', year: lastYear, view: areTwo ? 'change' : 'only', open: '',
-};
+const state = { region: '', fuel: '', style: 'stack', most: '12', year: lastYear, view: '', open: '' };
+state.view = areTwo ? 'change' : 'only';
 
 // Each plan counts with a weight, so that one code shows a plan, either of two, and what changes between them.
 const WEIGHTS = { only: [1n], change: [-1n, 1n], first: [1n, 0n], second: [0n, 1n] };
@@ -22,159 +24,143 @@ const NOISE = 2n;
 const withoutNoise = (values, weight) => (weight.filter(w => w).length < 2 ? values
   : values.map(v => (v !== null && abs(v) < NOISE ? 0n : v)));
 
-// Calls `act(row, place, weight, plan)` for each row of the regions of a scope that is kept and has a label.
-function forRows(table, scope, options, act) {
+// The sums of what rows count for, a Map from names to values in the order of the labels: `tell(row, plan)` is
+// [name, value] of a row of the regions of a scope that is kept and has a label.
+function sumsOf(table, scope, options, tell) {
   const { what = '', over = 'YEAR', labels = years, keep = () => true, weight = weights() } = options;
-  const place = new Map(labels.map((label, i) => [label, i]));
+  const place = new Map(labels.map((label, i) => [label, i])), sums = new Map();
   plans.forEach((plan, i) => {
-    if (!weight[i]) return;
-    for (const region of scope)
-      for (const row of plan.rows(table, region, what))
-        if (place.has(row[over]) && keep(row)) act(row, place.get(row[over]), weight[i], plan);
+    for (const region of weight[i] ? scope : [])
+      for (const row of plan.rows(table, region, what).filter(one => place.has(one[over]) && keep(one))) {
+        const [name, value] = tell(row, plan);
+        if (!sums.has(name)) sums.set(name, zeros(labels));
+        sums.get(name)[place.get(row[over])] += weight[i] * value;
+      }
   });
+  return new Map([...sums].map(([name, values]) => [name, withoutNoise(values, weight)]));
 }
 
-// The sums of a table's values by a column: a Map from its members to values, in the order of the labels.
-function sumsBy(by, table, scope, options = {}) {
-  const { labels = years, sign = 1n, weight = weights() } = options, sums = new Map();
-  forRows(table, scope, options, (row, place, factor) => {
-    const name = by ? row[by] : '';
-    if (!sums.has(name)) sums.set(name, zeros(labels));
-    sums.get(name)[place] += sign * factor * row.VALUE;
-  });
-  for (const [name, values] of sums) sums.set(name, withoutNoise(values, weight));
-  return sums;
-}
-
-// The sums of a table's values over all but the labels.
+// The sums of a table's values by a column, and over all but the labels.
+const sumsBy = (by, table, scope, options = {}) =>
+  sumsOf(table, scope, options, row => [by ? row[by] : '', (options.sign || 1n) * row.VALUE]);
 const sumOf = (table, scope, options = {}) =>
   sumsBy(null, table, scope, options).get('') || zeros(options.labels || years);
 
 // Those sums that aren't 0 throughout, in the order of the set.
-const seriesOf = (by, sums) => names[by.replace('_', '')]
-  .filter(name => sums.has(name) && isSome(sums.get(name)))
-  .map(name => ({ name, look: lookOf[by](name), values: sums.get(name) }));
+const seriesOf = (by, sums) => names[by.replace('_', '')].filter(name => isSome(sums.get(name) || []))
+  .map(name => ({ name, look: lookOf(by, name), values: sums.get(name) }));
 
 const tableSeries = (by, table, scope, options) => seriesOf(by, sumsBy(by, table, scope, options));
 
 // What comes in and goes out on the routes to regions outside the scope, weighed as the balances weigh it: by
 // TradeRoute, to the nearest millionth. A trade above 0 goes out.
 function tradeSeries(table, scope, options) {
-  const { labels = years, weight = weights() } = options, inward = zeros(labels), outward = zeros(labels);
-  forRows(table, scope, options, (row, place, factor, plan) => {
-    if (scope.includes(row._REGION)) return;
+  const sums = sumsOf(table, scope, options, (row, plan) => {
     const members = { _REGION: row._REGION, YEAR: row.YEAR };
     const flow = nearest(row.VALUE * plan.value('TradeRoute', row.REGION, row.FUEL, members, 0n), UNIT);
-    (flow < 0n ? inward : outward)[place] -= factor * flow;
+    return [scope.includes(row._REGION) ? 'inside' : flow < 0n ? 'imports' : 'exports', -flow];
   });
-  return [{ name: 'imports', look: ['cn', 1], values: withoutNoise(inward, weight) },
-    { name: 'exports', look: ['cn', 2], values: withoutNoise(outward, weight) }].filter(one => isSome(one.values));
+  return [['imports', 1], ['exports', 2]].map(([name, level]) =>
+    ({ name, look: ['cn', level], values: sums.get(name) || [] })).filter(one => isSome(one.values));
 }
 
 // What is asked for in the timeslices, and besides in the year as a whole.
 function demandOf(scope, fuel, weight = weights()) {
-  const options = { what: fuel, weight };
-  return plus(sumOf('Demand', scope, options), sumOf('AccumulatedAnnualDemand', scope, options));
+  const [slices, year] = ['Demand', 'AccumulatedAnnualDemand']
+    .map(table => sumOf(table, scope, { what: fuel, weight }));
+  return slices.map((v, i) => v + year[i]);
 }
 
 // The greatest height of a column above 0 or below.
-function tallest(chart) {
-  const ends = chart.labels.flatMap((_, i) => {
-    const values = chart.series.map(one => one.values[i] || 0n);
-    return [total(values.filter(v => v > 0n)), -total(values.filter(v => v < 0n))];
-  });
-  return most([0n, ...ends]);
-}
+const tallest = chart => most([0n, ...chart.labels.flatMap((_, i) => [1n, -1n].map(way =>
+  total(chart.series.map(one => way * (one.values[i] || 0n)).filter(v => v > 0n))))]);
 
-const several = list => list[0] + (list.length > 1 ? ` and ${list.length - 1} more` : '');
+// The first of a list, and how many follow.
+const firstOf = list => list[0] + (list.length > 1 ? ` and ${list.length - 1} more` : '');
 
 // Adds lines to a chart. A value more than three times as far from 0 as the greatest bar would press all bars flat, so
 // it is told in the note and not drawn; lines that are compared with each other are drawn whole or not at all.
-function addLines(chart, lines, areCompared) {
+function addLines(chart, lines, areCompared = false) {
   const far = 3n * tallest(chart), isFar = v => v !== null && abs(v) > far, told = [];
   const isNoneDrawn = areCompared && lines.some(line => line.values.some(isFar));
   for (const line of lines) {
     const isLeftOut = v => v !== null && (isNoneDrawn || isFar(v));
     const labels = chart.labels.filter((_, i) => isLeftOut(line.values[i]));
-    if (labels.length) told.push(`${line.name} in ${several(labels)}, ${shortRange(line.values.filter(isLeftOut))}`);
+    if (labels.length) told.push(`${line.name} in ${firstOf(labels)}, ${shortRange(line.values.filter(isLeftOut))}`);
     chart.lines.push({ ...line, drawn: line.values.map(v => (isLeftOut(v) ? null : v)) });
   }
-  const note = told.length ? `Too far above the bars to be drawn: ${told.join('; ')}.` : '';
-  chart.note = [chart.note, note].filter(text => text).join(' ');
+  const note = told.length && `Too far above the bars to be drawn: ${told.join('; ')}.`;
+  chart.note = present([chart.note, note]).join(' ');
 }
 
 // ---- The charts of a fuel: @ is the fuel, # the chosen year
 
+const isMaker = (row, scope, fuel) => makers.has(keyOf(row.REGION, row.TECHNOLOGY, fuel));
+const isIdle = row => !busy.has(row.TECHNOLOGY);
+const isOutside = (row, scope) => !scope.includes(row._REGION);
+
+// [title, sub, table, more]; what is made is told with what is traded and asked for.
 const FUEL_CHARTS = [
-  { title: 'Production of @', sub: 'by technology, energy of a year',
-    table: 'ProductionByTechnologyAnnual', trade: 'TradeAnnual', hasDemand: true },
-  { title: 'Production of @ in #', sub: 'by technology and timeslice, energy',
-    table: 'ProductionByTechnology', trade: 'Trade', hasDemand: true, inSlices: true },
-  { title: 'Use of @', sub: 'by technology, energy of a year', table: 'UseByTechnologyAnnual' },
-  { title: 'Use of @ in #', sub: 'by technology and timeslice, energy', table: 'UseByTechnology', inSlices: true },
-  { title: 'Trade of @', sub: 'by other region: above 0 goes there, below comes from there',
-    table: 'TradeAnnual', by: '_REGION', isOutside: true },
-  { title: 'Capacity making @', sub: 'by technology', table: 'TotalCapacityAnnual', ofMakers: true },
-  { title: 'New capacity making @', sub: 'by technology', table: 'NewCapacity', ofMakers: true },
+  ['Production of @', 'by technology, energy of a year', 'ProductionByTechnologyAnnual', { trade: 'TradeAnnual' }],
+  ['Production of @ in #', 'by technology and timeslice, energy', 'ProductionByTechnology', { trade: 'Trade' }],
+  ['Use of @', 'by technology, energy of a year', 'UseByTechnologyAnnual', {}],
+  ['Use of @ in #', 'by technology and timeslice, energy', 'UseByTechnology', {}],
+  ['Trade of @', 'by other region: above 0 goes there, below comes from there', 'TradeAnnual',
+    { by: '_REGION', isKept: isOutside }],
+  ['Capacity making @', 'by technology', 'TotalCapacityAnnual', { isCapacity: true, isKept: isMaker }],
+  ['New capacity making @', 'by technology', 'NewCapacity', { isCapacity: true, isKept: isMaker }],
 ];
+
+// Capacity of technologies that make nothing, which stands with no fuel.
+const IDLE_CHARTS = [['Capacity', 'TotalCapacityAnnual'], ['New capacity', 'NewCapacity']].map(([title, table]) =>
+  [title, 'of technologies that make no fuel', table, { isCapacity: true, isKept: isIdle }]);
 
 // Puts capacity last that costs no investment: often there is so much of it, as of imports, that it hides the rest.
 function putFreeLast(chart) {
-  const free = chart.series.filter(one => !costly.has(one.name));
-  chart.series = [...chart.series.filter(one => costly.has(one.name)), ...free];
-  if (free.length && free.length < chart.series.length) chart.sub += '; what costs no investment comes last';
-  return chart;
+  const [dear, free] = [true, false].map(isDear => chart.series.filter(one => costly.has(one.name) === isDear));
+  chart.series = [...dear, ...free];
+  if (free.length && dear.length) chart.sub += '; what costs no investment comes last';
 }
 
-function fuelChart(spec, scope, fuel) {
-  if (spec.inSlices && names.TIMESLICE.length < 2) return null;
-  const fill = text => text.replace(/[@#]/g, mark => (mark === '@' ? fuel : state.year));
-  const keep = row => (!spec.inSlices || row.YEAR === state.year)
-    && (!spec.ofMakers || makers.has(keyOf(row.REGION, row.TECHNOLOGY, fuel)))
-    && (!spec.isOutside || !scope.includes(row._REGION));
-  const options = { what: spec.ofMakers ? '' : fuel, keep, over: spec.inSlices ? 'TIMESLICE' : 'YEAR' };
-  options.labels = spec.inSlices ? names.TIMESLICE : years;
-  const chart = { title: fill(spec.title), sub: spec.sub, labels: options.labels, lines: [], isSummed: true };
-  chart.series = tableSeries(spec.by || 'TECHNOLOGY', spec.table, scope, options);
-  if (spec.ofMakers) putFreeLast(chart);
-  if (spec.trade) chart.series.push(...tradeSeries(spec.trade, scope, options));
-  const asked = !spec.hasDemand ? [] : spec.inSlices ? sumOf('Demand', scope, options) : demandOf(scope, fuel);
-  if (isSome(asked)) chart.lines.push({ name: 'Final demand', stroke: 'dem', values: asked });
+function tableChart([title, sub, table, { by = 'TECHNOLOGY', trade, isCapacity, isKept = () => true }], scope, fuel) {
+  const inSlices = title.includes('#');
+  if (inSlices && names.TIMESLICE.length < 2) return null;
+  const [over, labels] = inSlices ? ['TIMESLICE', names.TIMESLICE] : ['YEAR', years];
+  const keep = row => (!inSlices || row.YEAR === state.year) && isKept(row, scope, fuel);
+  const options = { what: isCapacity ? '' : fuel, keep, over, labels }, marks = { '@': fuel, '#': state.year };
+  const series = tableSeries(by, table, scope, options);
+  const chart = chartOf(title.replace(/[@#]/g, mark => marks[mark]), sub, series, { labels });
+  if (isCapacity) putFreeLast(chart);
+  if (!trade) return chart;
+  series.push(...tradeSeries(trade, scope, options));
+  const values = inSlices ? sumOf('Demand', scope, options) : demandOf(scope, fuel);
+  if (isSome(values)) chart.lines.push({ name: 'Final demand', stroke: 'dem', values });
   return chart;
 }
 
 // Activity in per cent of what all capacity could do in the year, of one plan: by technology, null where there is none.
-function fullnessOf(plan, scope, keep) {
-  const options = { keep, weight: alone(plan) }, could = new Map(), parts = new Map();
-  for (const region of scope)
-    for (const [name, values] of sumsBy('TECHNOLOGY', 'TotalCapacityAnnual', [region], options)) {
-      const unit = plans[plan].value('CapacityToActivityUnit', region, '', { TECHNOLOGY: name }, 0n);
-      could.set(name, plus(could.get(name) || zeros(years), values.map(v => v * unit)));
-    }
+function fullnessOf(place, scope, keep) {
+  const options = { keep, weight: alone(place) };
   const does = sumsBy('TECHNOLOGY', 'TotalTechnologyAnnualActivity', scope, options);
-  for (const [name, values] of could) {
+  const could = sumsOf('TotalCapacityAnnual', scope, options, ({ REGION, TECHNOLOGY, VALUE }, plan) =>
+    [TECHNOLOGY, VALUE * plan.value('CapacityToActivityUnit', REGION, '', { TECHNOLOGY }, 0n)]);
+  return new Map([...could].map(([name, values]) => {
     const activity = does.get(name) || zeros(years);
-    parts.set(name, values.map((v, i) => (v > 0n ? nearest(activity[i] * 100n * UNIT * UNIT, v) : null)));
-  }
-  return parts;
+    return [name, values.map((v, i) => (v > 0n ? nearest(activity[i] * 100n * UNIT * UNIT, v) : null))];
+  }));
 }
 
-// What changes from one Map of values to another, of the names that both have.
-function changesBetween(first, second) {
-  const changes = new Map();
-  for (const [name, values] of second) {
-    const before = first.has(name) ? first.get(name).map(v => (v === null ? null : -v)) : values.map(() => null);
-    changes.set(name, withoutNoise(plus(values, before), weights()));
-  }
-  return changes;
-}
+// What changes from one Map of values to another, where both have one.
+const changesBetween = (first, second) => new Map([...second].map(([name, values]) => {
+  const before = first.get(name) || [], isKnown = i => values[i] !== null && (before[i] ?? null) !== null;
+  return [name, withoutNoise(values.map((v, i) => (isKnown(i) ? v - before[i] : null)), weights())];
+}));
 
 function fullnessChart(scope, fuel) {
-  const keep = row => makers.has(keyOf(row.REGION, row.TECHNOLOGY, fuel));
-  const parts = plans.flatMap((_, i) => (weights()[i] ? [fullnessOf(i, scope, keep)] : []));
-  const sums = parts.length < 2 ? parts[0] : changesBetween(parts[0], parts[1]);
-  return { title: 'How full capacity runs: ' + fuel, sub: 'by technology that makes it, per cent of the year',
-    labels: years, lines: [], series: seriesOf('TECHNOLOGY', sums), style: 'line', isSummed: false };
+  const parts = place => fullnessOf(place, scope, row => isMaker(row, scope, fuel));
+  const sums = isChange() ? changesBetween(parts(0), parts(1)) : parts(plans.indexOf(shownPlan()));
+  return chartOf('How full capacity runs: ' + fuel, 'by technology that makes it, per cent of the year',
+    seriesOf('TECHNOLOGY', sums), { style: 'line', isSummed: false });
 }
 
 // What a unit more of a fuel costs, in money of its year. Promises of two plans, or of two regions, don't add up, so
@@ -183,28 +169,22 @@ function priceChart(scope, fuel) {
   if (isChange() || scope.length > 1) return null;
   const plan = shownPlan(), rows = plan.rows('prices', scope[0], fuel);
   const inSlices = rows.some(row => row.EQUATION === 'EBa11' && row.PRICE);
-  const labels = inSlices ? names.TIMESLICE : ['Year'], values = new Map(labels.map(label => [label, zeros(years)]));
+  const labels = inSlices ? names.TIMESLICE : ['Year'];
+  const series = labels.map((name, i) => ({ name, look: placedLook(i), values: zeros(years) }));
   for (const row of rows.filter(one => (one.EQUATION === 'EBa11') === inSlices)) {
     const worth = plan.value('worth', scope[0], '', { YEAR: row.YEAR }, 0n);
     const price = row.PRICE === null || worth <= 0n ? null : nearest(row.PRICE * 10n ** 9n, worth);
-    values.get(inSlices ? row.TIMESLICE : 'Year')[years.indexOf(row.YEAR)] = price;
+    series[inSlices ? labels.indexOf(row.TIMESLICE) : 0].values[years.indexOf(row.YEAR)] = price;
   }
-  const series = labels.map((name, i) => ({ name, look: placedLook(i), values: values.get(name) }));
-  const bound = plan.isLeast ? 'least cost' : 'bound of the cost';
-  return { title: 'Price of ' + fuel, labels: years, lines: [], style: 'dots', isSummed: false, series,
-    sub: !inSlices ? 'of a unit more over the year, in money of its year'
-      : 'of a unit more, in money of its year' + (labels.length > 1 ? '; a dot for each timeslice' : ''),
-    note: `One unit more asked for${inSlices ? '' : ' in the year'} raises the ${bound} by this much or more.` };
+  const sub = `of a unit more${inSlices ? '' : ' over the year'}, in money of its year`;
+  const note = `One unit more asked for${inSlices ? '' : ' in the year'} raises the `
+    + `${plan.isLeast ? 'least cost' : 'bound of the cost'} by this much or more.`;
+  return chartOf('Price of ' + fuel, sub + (labels.length > 1 ? '; a dot for each timeslice' : ''), series,
+    { note, style: 'dots', isSummed: false });
 }
 
 const fuelCharts = (scope, fuel) =>
-  [...FUEL_CHARTS.map(spec => fuelChart(spec, scope, fuel)), fullnessChart(scope, fuel), priceChart(scope, fuel)];
-
-// Capacity of technologies that make nothing, which stands with no fuel.
-const idleChart = (title, table, scope) => putFreeLast({
-  title, sub: 'of technologies that make no fuel', labels: years, lines: [], isSummed: true,
-  series: tableSeries('TECHNOLOGY', table, scope, { keep: row => !links.makes.has(row.TECHNOLOGY) }),
-});
+  [...FUEL_CHARTS.map(spec => tableChart(spec, scope, fuel)), fullnessChart(scope, fuel), priceChart(scope, fuel)];
 
 // ---- The charts of costs and emissions
 
@@ -219,10 +199,10 @@ const discounted = areTwo ? 'each discounted to its own first year' : 'discounte
 
 function costChart(scope) {
   const series = COSTS.map(({ name, table, sign, look }) => ({ name, look, values: sumOf(table, scope, { sign }) }));
-  return { title: 'Cost by year and kind', sub: discounted, labels: years, isSummed: false,
-    series: series.filter(one => isSome(one.values)),
-    lines: [{ name: 'Net (TotalDiscountedCost)', stroke: 'net', values: sumOf('TotalDiscountedCost', scope) }],
-    note: 'Net is rounded by itself, so it may differ from the sum of the kinds by some millionths.' };
+  const net = { name: 'Net (TotalDiscountedCost)', stroke: 'net', values: sumOf('TotalDiscountedCost', scope) };
+  return chartOf('Cost by year and kind', discounted, series.filter(one => isSome(one.values)),
+    { lines: [net], isSummed: false,
+      note: 'Net is rounded by itself, so it may differ from the sum of the kinds by some millionths.' });
 }
 
 function technologyCostChart(scope) {
@@ -230,12 +210,10 @@ function technologyCostChart(scope) {
   const series = names.TECHNOLOGY.map(name => {
     const [invested, running, penalties, salvage] = sums.map(sum => total(sum.get(name) || []));
     return { name, look: ['cb', 0], values: withoutNoise([invested + salvage, running, penalties], weights()) };
-  }).filter(one => isSome(one.values));
-  series.sort((a, b) => order(abs(total(b.values)), abs(total(a.values))));
-  return { title: isChange() ? 'What the change of cost is made of' : 'What the cost is made of',
-    sub: 'by technology, all years, discounted; greatest first',
-    labels: ['Investment less salvage', 'Running', 'Emission penalties'], series, lines: [],
-    isBars: true, isSummed: true };
+  }).filter(one => isSome(one.values)).sort((a, b) => order(abs(total(b.values)), abs(total(a.values))));
+  return chartOf(isChange() ? 'What the change of cost is made of' : 'What the cost is made of',
+    'by technology, all years, discounted; greatest first', series,
+    { labels: ['Investment less salvage', 'Running', 'Emission penalties'], isBars: true });
 }
 
 // The yearly limits of a region's technologies: what the emissions from elsewhere leave of them; null where none is.
@@ -253,67 +231,59 @@ function periodNote(plan, region, emission) {
 }
 
 function emissionChart(scope, emission) {
-  const chart = { title: (isChange() ? 'Emissions of ' : 'Emissions: ') + emission, sub: 'by technology and year',
-    labels: years, lines: [], isSummed: true };
-  chart.series = tableSeries('TECHNOLOGY', 'AnnualTechnologyEmission', scope, { what: emission });
+  const chart = chartOf((isChange() ? 'Emissions of ' : 'Emissions: ') + emission, 'by technology and year',
+    tableSeries('TECHNOLOGY', 'AnnualTechnologyEmission', scope, { what: emission }));
   if (isChange()) {
     addLines(chart, plans.map((plan, i) => ({ name: plan.file, stroke: ['dem', 'lim'][i],
       values: sumOf('AnnualEmissions', scope, { what: emission, weight: alone(i) }) })), true);
   } else if (scope.length === 1) {
     const limits = yearlyLimits(shownPlan(), scope[0], emission);
     chart.note = periodNote(shownPlan(), scope[0], emission);
-    if (limits.some(v => v !== null)) addLines(chart, [{ name: 'Yearly limit', stroke: 'lim', values: limits }], false);
+    if (limits.some(v => v !== null)) addLines(chart, [{ name: 'Yearly limit', stroke: 'lim', values: limits }]);
   }
   return chart;
 }
 
-const regionChart = (title, sub, table, what) => ({
-  title, sub, labels: years, lines: [], isSummed: true, series: tableSeries('REGION', table, names.REGION, { what }),
-});
+const regionChart = (title, sub, table, what) =>
+  chartOf(title, sub, tableSeries('REGION', table, names.REGION, { what }));
 
 // ---- What is told in words
 
 const LIMITS = {
-  TCC1: 'Capacity of @ at most', TCC2: 'Capacity of @ at least',
-  NCC1: 'New capacity of @ at most', NCC2: 'New capacity of @ at least',
-  AAC2: 'Activity of @ at most', AAC3: 'Activity of @ at least',
+  TCC1: 'Capacity of @ at most', TCC2: 'Capacity of @ at least', RM3: 'Reserve margin', RE4: 'Renewable target',
+  NCC1: 'New capacity of @ at most', NCC2: 'New capacity of @ at least', E8: 'Emissions of @ at most',
+  AAC2: 'Activity of @ at most', AAC3: 'Activity of @ at least', E9: 'Emissions of @, all years, at most',
   TAC2: 'Activity of @, all years, at most', TAC3: 'Activity of @, all years, at least',
-  RM3: 'Reserve margin', RE4: 'Renewable target',
-  E8: 'Emissions of @ at most', E9: 'Emissions of @, all years, at most',
 };
 
 // What looser limits save, a limit with all its years; the greatest saving first.
 function limitsOf(scope) {
-  const found = new Map();
-  for (const row of shownPlan().all('limits')) {
-    if (!scope.includes(row.REGION) || row.PRICE === null) continue;
-    const what = row.TECHNOLOGY || row.EMISSION, key = keyOf(row.EQUATION, row.REGION, what);
-    const text = (LIMITS[row.EQUATION] || row.EQUATION + ' @').replace('@', () => what);
-    const limit = found.get(key) || { region: row.REGION, text, years: [], bounds: [], unit: 0n, percent: 0n };
-    if (row.YEAR && !limit.years.includes(row.YEAR)) limit.years.push(row.YEAR);
-    if (row.LIMIT !== null) limit.bounds.push(row.LIMIT);
-    limit.unit += abs(row.PRICE);
-    limit.percent += abs(row.PERCENT || 0n);
-    found.set(key, limit);
-  }
-  return [...found.values()].sort((a, b) => order(b.percent, a.percent) || order(b.unit, a.unit));
+  const rows = shownPlan().all('limits').filter(row => scope.includes(row.REGION) && row.PRICE !== null);
+  const nameOf = row => row.TECHNOLOGY || row.EMISSION;
+  return [...grouped(rows, row => keyOf(row.EQUATION, row.REGION, nameOf(row))).values()].map(parts => ({
+    text: (scope.length > 1 ? parts[0].REGION + ': ' : '')
+      + (LIMITS[parts[0].EQUATION] || parts[0].EQUATION + ' @').replace('@', () => nameOf(parts[0])),
+    times: [...new Set(parts.map(row => row.YEAR))].filter(year => year),
+    bounds: parts.map(row => row.LIMIT).filter(v => v !== null),
+    unit: total(parts.map(row => abs(row.PRICE))),
+    percent: total(parts.map(row => abs(row.PERCENT || 0n))),
+  })).sort((a, b) => order(b.percent, a.percent) || order(b.unit, a.unit));
 }
 
 // Who makes most of a fuel in a year, { name, made, all }; undefined where nobody does.
 function mostOf(scope, fuel, year) {
   const options = { what: fuel, labels: [year] };
   const made = [...tradeSeries('TradeAnnual', scope, options).filter(one => one.name === 'imports'),
-    ...tableSeries('TECHNOLOGY', 'ProductionByTechnologyAnnual', scope, options)];
-  const greatest = made.reduce((a, b) => (!a || b.values[0] > a.values[0] ? b : a), null);
-  if (!greatest || greatest.values[0] <= 0n) return undefined;
-  return { name: greatest.name, made: greatest.values[0], all: total(made.map(one => one.values[0])) };
+    ...tableSeries('TECHNOLOGY', 'ProductionByTechnologyAnnual', scope, options)]
+    .map(({ name, values: [value] }) => [name, value]);
+  const values = made.map(([, value]) => value), greatest = most([0n, ...values]);
+  return greatest > 0n ? { name: made[values.indexOf(greatest)][0], made: greatest, all: total(values) } : undefined;
 }
 
 // Who makes most of a fuel; and where that one makes all of it out of a single fuel, who makes most of that, and so on.
 function makersOf(scope, fuel, year) {
-  const told = [], seen = new Set();
-  for (let next = fuel; next !== undefined && !seen.has(next);) {
-    seen.add(next);
+  const told = [];
+  for (let next = fuel; next !== undefined && !told.some(one => one.fuel === next);) {
     const greatest = mostOf(scope, next, year);
     if (!greatest) break;
     told.push({ fuel: next, name: greatest.name, share: share(greatest.made, greatest.all) });

@@ -11,6 +11,11 @@ function fieldsOf(line) {
     .map(([, inQuotes, plain]) => (inQuotes === undefined ? plain : inQuotes.replaceAll('""', '"')));
 }
 
+const linesOf = text => text.split('\n').filter(line => line !== '');
+
+// The lines of a text by their first words.
+const wordsOf = text => new Map(linesOf(text).map(line => line.split(/ (.*)/, 2)));
+
 const NUMBERS = ['VALUE', 'LIMIT', 'PRICE', 'PERCENT'];
 
 // A line without a comma names a table; a line of its columns and its records follow. Numbers are millionths, but what
@@ -18,72 +23,67 @@ const NUMBERS = ['VALUE', 'LIMIT', 'PRICE', 'PERCENT'];
 function tablesOf(text) {
   const tables = new Map();
   let rows = null, columns = null, places = 6;
-  for (const line of text.split('\n')) {
-    if (line === '') continue;
-    if (!line.includes(',')) {
+  for (const line of linesOf(text)) {
+    const fields = fieldsOf(line);
+    if (fields.length === 1) {
       [rows, columns, places] = [[], null, line === 'worth' ? 9 : 6];
       tables.set(line, rows);
-    } else if (!columns) {
-      columns = fieldsOf(line).map(name => ({ name, isNumber: NUMBERS.includes(name) }));
+    } else if (columns) {
+      const valueOf = (name, i) => (NUMBERS.includes(name) ? whole(fields[i], places) : fields[i]);
+      rows.push(Object.fromEntries(columns.map((name, i) => [name, valueOf(name, i)])));
     } else {
-      rows.push(rowOf(columns, fieldsOf(line), places));
+      columns = fields;
     }
   }
   return tables;
 }
 
-function rowOf(columns, fields, places) {
-  const row = {};
-  for (let i = 0; i < columns.length; i++)
-    row[columns[i].name] = columns[i].isNumber ? whole(fields[i], places) : fields[i];
-  return row;
-}
-
 // Names as one text, to find things by in a Map.
 const keyOf = (...members) => members.join('\n');
 
+// A Map from the keys of rows to the rows that have them.
+function grouped(rows, keyOfRow) {
+  const groups = new Map();
+  for (const row of rows) {
+    const key = keyOfRow(row);
+    if (!groups.has(key)) groups.set(key, []);
+    groups.get(key).push(row);
+  }
+  return groups;
+}
+
+const several = (count, name) => `${count} ${name}${Number(count) === 1 ? '' : 's'}`;
+
 class Plan {
   constructor(element) {
-    this.file = element.querySelector('.name').textContent;
-    this.said = element.querySelector('.said').textContent;
-    this.text = element.querySelector('.tables').textContent;
-    this.tables = tablesOf(this.text);
+    const [name, said, text, changes] = ['.name', '.said', '.tables', '.changes']
+      .map(kind => (element.querySelector(kind) || { textContent: '' }).textContent);
+    // The first line of a file of changes has its columns.
+    const changed = linesOf(changes), made = changed.length ? several(changed.length - 1, 'change') : '';
+    Object.assign(this, { said, text, changed, made, file: name + (made && ' with ' + made) });
+    this.tables = tablesOf(text);
     this.index = new Map();
   }
 
   // What is said by this word, or undefined.
-  word(name) {
-    const line = this.said.split('\n').find(said => said.startsWith(name + ' '));
-    return line && line.slice(name.length + 1);
-  }
+  word(name) { return wordsOf(this.said).get(name); }
 
   // A fraction that is said, as its two whole numbers.
   fraction(name) {
-    const [above, below] = (this.word(name) || '0').split('/');
-    return [BigInt(above), BigInt(below || 1)];
+    const [above, below = 1] = (this.word(name) || '0').split('/');
+    return [BigInt(above), BigInt(below)];
   }
 
   // Whether it is said that no plan costs less; both are fractions in lowest terms.
   get isLeast() { return this.word('cost') !== undefined && this.word('cost') === this.word('bound'); }
-
   all(table) { return this.tables.get(table) || []; }
-
   members(set) { return this.all('sets').filter(row => row.SET === set).map(row => row.MEMBER); }
 
   // The rows of a region and a fuel or emission, or of a region where the table has neither.
   rows(table, region, what) {
-    if (!this.index.has(table)) this.index.set(table, this.indexOf(table));
+    const placeOf = row => keyOf(row.REGION, row.FUEL || row.EMISSION || '');
+    if (!this.index.has(table)) this.index.set(table, grouped(this.all(table), placeOf));
     return this.index.get(table).get(keyOf(region, what)) || [];
-  }
-
-  indexOf(table) {
-    const index = new Map();
-    for (const row of this.all(table)) {
-      const key = keyOf(row.REGION, row.FUEL || row.EMISSION || '');
-      if (!index.has(key)) index.set(key, []);
-      index.get(key).push(row);
-    }
-    return index;
   }
 
   // The value of a parameter at these members, or `none` where it has no row.
@@ -94,12 +94,10 @@ class Plan {
   }
 }
 
-const plans = [...document.querySelectorAll('.plan')].map(element => new Plan(element));
-const areTwo = plans.length > 1;
-if (areTwo && plans[0].file === plans[1].file) {
-  plans[0].file += ' (first)';
-  plans[1].file += ' (second)';
-}
+const plans = [...document.querySelectorAll('.plan')].map(element => new Plan(element)), areTwo = plans.length > 1;
+if (areTwo && plans[0].file === plans[1].file)
+  plans.forEach((plan, i) => { plan.file += [' (first)', ' (second)'][i]; });
+const allRows = table => plans.flatMap(plan => plan.all(table));
 
 // ---- Names: the members of each set, those of the first file and after them those that the second alone has
 
@@ -107,44 +105,30 @@ const SETS = ['REGION', 'TECHNOLOGY', 'FUEL', 'EMISSION', 'MODE_OF_OPERATION', '
 const names = Object.fromEntries(SETS.map(set => [set, [...new Set(plans.flatMap(plan => plan.members(set)))]]));
 const years = names.YEAR.sort((a, b) => a - b), firstYear = years[0], lastYear = years[years.length - 1];
 
-// Who makes and takes which fuels, and emits what: by technology, in any region and in either plan.
-function linksOf(table, set) {
-  const links = new Map();
-  for (const row of plans.flatMap(plan => plan.all(table))) {
-    if (!links.has(row.TECHNOLOGY)) links.set(row.TECHNOLOGY, new Set());
-    links.get(row.TECHNOLOGY).add(row[set]);
-  }
-  return links;
-}
-
-const links = {
-  makes: linksOf('OutputActivityRatio', 'FUEL'),
-  takes: linksOf('InputActivityRatio', 'FUEL'),
-  emits: linksOf('EmissionActivityRatio', 'EMISSION'),
-};
-
-// Who does so in which region.
-const regionalKeys = table => new Set(plans.flatMap(plan => plan.all(table))
-  .map(row => keyOf(row.REGION, row.TECHNOLOGY, row.FUEL)));
+// Who makes and takes which fuel in which region, who makes any, and what is built at a cost, anywhere and in any year.
+const regionalKeys = table => new Set(allRows(table).map(row => keyOf(row.REGION, row.TECHNOLOGY, row.FUEL)));
 const makers = regionalKeys('OutputActivityRatio'), takers = regionalKeys('InputActivityRatio');
-
-// What is built at a cost, anywhere and in any year.
-const costly = new Set(plans.flatMap(plan => plan.all('DiscountedCapitalInvestment'))
-  .filter(row => row.VALUE).map(row => row.TECHNOLOGY));
+const busy = new Set(allRows('OutputActivityRatio').map(row => row.TECHNOLOGY));
+const costly = new Set(allRows('DiscountedCapitalInvestment').filter(row => row.VALUE).map(row => row.TECHNOLOGY));
 
 // ---- Looks: nine colours, each plain, striped and dotted
 
 const COLOURS = 9, LEVELS = 3;
 const placedLook = place => ['c' + (place % COLOURS), Math.floor(place / COLOURS) % LEVELS];
 
+// Who stands in which charts: { technology, chart }, in any region and in either plan.
+const LINKS = [['OutputActivityRatio', 'FUEL'], ['InputActivityRatio', 'FUEL'], ['EmissionActivityRatio', 'EMISSION']];
+const standing = LINKS.flatMap(([table, set]) =>
+  allRows(table).map(row => ({ technology: row.TECHNOLOGY, chart: keyOf(table, row[set]) })));
+
 // Technologies that make or take one fuel, or emit one emission, stand in one chart, so no two of them look alike as
 // long as there are looks that are free; plain ones come first, and of these the one that is used least. Where none is
 // free, it is the one that the fewest charts have already. By names alone, so all pages of one data file agree.
 function technologyLooks() {
   const places = [...Array(COLOURS * LEVELS).keys()], used = places.map(() => 0), taken = new Map(), looks = new Map();
+  const links = grouped(standing, link => link.technology);
   for (const technology of names.TECHNOLOGY) {
-    const charts = Object.keys(links)
-      .flatMap(kind => [...(links[kind].get(technology) || [])].map(what => keyOf(kind, what)));
+    const charts = [...new Set((links.get(technology) || []).map(link => link.chart))];
     const clashes = places.map(place => charts.filter(chart => (taken.get(chart) || new Set()).has(place)).length);
     const fewest = Math.min(...clashes), free = places.filter(place => clashes[place] === fewest);
     const level = Math.floor(free[0] / COLOURS), plainest = free.filter(place => Math.floor(place / COLOURS) === level);
@@ -157,6 +141,5 @@ function technologyLooks() {
 }
 
 const looks = technologyLooks();
-const regionLook = region => placedLook(names.REGION.indexOf(region));
-const lookOf = { TECHNOLOGY: technology => looks.get(technology), REGION: regionLook, _REGION: regionLook };
+const lookOf = (by, name) => (by === 'TECHNOLOGY' ? looks.get(name) : placedLook(names.REGION.indexOf(name)));
 "##;
