@@ -1,16 +1,10 @@
 #!/usr/bin/env python3
-"""Makes the table of crates of docs/CHANGING.md anew: each crate of crates.txt, lowest first, with its layer and the first sentence of
-its README. A crate's layer is the number of crates of the longest chain that ends with it.
-
-Usage: bench/crates.py [--check]
-
-With --check nothing is written; status 1 where the table isn't what it would be."""
+"""Prints the crates of crates.txt by layer, with the first sentence of their READMEs, and the longest chain. A crate's layer is the number
+of crates of the longest chain that ends with it."""
 import os
 import re
-import sys
 
 TOP = os.path.dirname(os.path.dirname(os.path.abspath(__file__)))
-BEGIN, END = "<!-- made by bench/crates.py -->", "<!-- end of the crates -->"
 
 
 def needs():
@@ -49,28 +43,13 @@ def first_sentence(crate):
     return re.split(r"(?<=[.:])\s+(?=[A-Z`])", text)[0].rstrip(":").rstrip(".")
 
 
-def made():
+def main():
     below = needs()
     found = layers(below)
-    links = chain(below, found)
-    lines = [f"The longest chain has {len(links)} crates: {', '.join(f'`{it}`' for it in links)}.", ""]
-    lines += ["| Layer | Crate | What it is |", "|---|---|---|"]
-    lines += [f"| {found[it]} | `{it}` | {first_sentence(it)} |" for it in sorted(below, key=lambda it: found[it])]
-    return "\n".join(lines)
-
-
-def main():
-    path = f"{TOP}/docs/CHANGING.md"
-    with open(path) as file:
-        text = file.read()
-    before, _, rest = text.partition(BEGIN)
-    anew = f"{before}{BEGIN}\n{made()}\n{END}{rest.partition(END)[2]}"
-    if "--check" in sys.argv[1:]:
-        return int(anew != text)
-    with open(path, "w") as file:
-        file.write(anew)
-    return 0
+    for crate in sorted(below, key=lambda it: found[it]):
+        print(f"{found[crate]:2} {crate:22} {first_sentence(crate)}")
+    print("The longest chain:", *chain(below, found))
 
 
 if __name__ == "__main__":
-    sys.exit(main())
+    main()

@@ -1,12 +1,12 @@
 #!/usr/bin/env python3
 """Checks the documents against the repository, and prints a line for each thing that isn't so.
 
-Usage: bench/documents.py [--lines] [--no-runs]
+Usage: bench/documents.py [--no-runs]
 
-- Every path that a document names stands in the repository; a path with a capital NAME or GROUP in it is a pattern.
-- Every line that docs/THEOREM.md cites is the one on which the clause or the definition begins; with --lines it is made so.
-- No cell of a table of docs/THEOREM.md is empty.
-- Every crate is in the map of docs/CHANGING.md, and its table of crates is what bench/crates.py makes.
+- Every path that a document names stands in the repository, and so does every file that it links to; a path with a capital NAME or GROUP
+  in it is a pattern.
+- docs/dev/THEOREM.md has each clause of the call `osemosys` in brackets, and no others; each name in code there stands in the crates.
+- Every crate is in the map of docs/dev/CHANGING.md, and has a README.md whose heading is its name.
 - Every command of README.md, examples/README.md and docs/COMMANDS.md that works on a file of examples/ is run, and what is
   shown of its text compared; `..` stands for lines that are left out, and `| head -N` for the lines after the N-th. With
   --no-runs none is run. Runs of `try` and of the gate take minutes, and are left out. What needs a tool that is missing, or a file
@@ -37,7 +37,7 @@ def find(where, what):
 
 def documents():
     found = ["README.md", "examples/README.md", "bench/README.md"]
-    found += [f"docs/{it}" for it in sorted(os.listdir(f"{TOP}/docs"))]
+    found += [f"{folder}/{it}" for folder in ("docs", "docs/dev") for it in sorted(os.listdir(f"{TOP}/{folder}"))]
     found += [f"crates/{it}/README.md" for it in sorted(os.listdir(f"{TOP}/crates"))]
     return [it for it in found if os.path.isfile(f"{TOP}/{it}")]
 
@@ -77,56 +77,35 @@ def check_paths():
                     find(f"{document}:{number}", f"there is no {word}")
 
 
-def declared_at(path, name, is_clause):
-    """The lines of a file on which a clause or a definition of that name begins."""
-    if not os.path.isfile(f"{TOP}/crates/{path}"):
-        return []
-    begins = rf"\s*ensures {name} \{{" if is_clause else rf"((pub|abbrev|record|data|unfoldable|opaque) )+{name}\b"
-    return [at for at, line in enumerate(lines_of(f"crates/{path}"), 1) if re.match(begins, line)]
+def check_links():
+    for document in documents():
+        for number, line in enumerate(lines_of(document), 1):
+            for target in re.findall(r"\]\(([^()\s#]+)[^()\s]*\)", line):
+                if "://" not in target and not os.path.exists(f"{TOP}/{os.path.dirname(document)}/{target}"):
+                    find(f"{document}:{number}", f"its link leads to no {target}")
 
 
-def check_lines(is_written):
-    """The rows of the last table of THEOREM.md: names, and after each file the lines of as many of them as it has."""
-    document = "docs/THEOREM.md"
-    text = lines_of(document)
-    for number, line in enumerate(text):
-        if line.startswith("|") and re.search(r"\|\s*\|", line):
-            find(f"{document}:{number + 1}", "a cell is empty")
-        row = re.fullmatch(r"\| (.*) \| ((?:`[\w/.]+\.(?:rt|antt)` \d+(?:, )?(?:\d+(?:, )?)*)+) \|", line)
-        if not row:
-            continue
-        names = re.findall(r"\[(\w+)\]|`(\w+)`", row[1])
-        if not names:
-            names = [("", row[1].strip("`"))]
-        cited = [(path, int(at)) for path, many in re.findall(r"`([\w/.]+)` ([\d, ]+)", row[2]) for at in re.findall(r"\d+", many)]
-        if len(cited) != len(names):
-            find(f"{document}:{number + 1}", f"{len(names)} names and {len(cited)} lines")
-            continue
-        now = []
-        for (clause, word), (path, at) in zip(names, cited):
-            places = declared_at(path, clause or word, bool(clause))
-            if at not in places and not is_written or not places:
-                find(f"{document}:{number + 1}", f"{clause or word} doesn't begin on line {at} of {path}, but on {places or 'none'}")
-            now.append((path, at if at in places or not places else places[0]))
-        if is_written:
-            shown, last = [], None
-            for path, at in now:
-                shown.append(str(at) if path == last else f"`{path}` {at}")
-                last = path
-            text[number] = f"| {row[1]} | {', '.join(shown)} |"
-    if is_written:
-        with open(f"{TOP}/{document}", "w", encoding="utf-8") as file:
-            file.write("\n".join(text))
+def check_theorem():
+    document = "docs/dev/THEOREM.md"
+    text = "\n".join(lines_of(document))
+    call = "\n".join(lines_of("crates/osemosys_run/src/run.rt")).partition("pub fn osemosys<")[2].partition("\n{\n")[0]
+    clauses, told = set(re.findall(r"^ *ensures (\w+) \{", call, re.M)), set(re.findall(r"\[(\w+)\]", text))
+    for clause in sorted(clauses ^ told):
+        find(document, f"the clause {clause} isn't {'told' if clause in clauses else 'one of osemosys'}")
+    sources = [it for it in files() if it.startswith("/crates/") and it.endswith((".rt", ".antt"))]
+    known = set().union(*(re.findall(r"\w+", "\n".join(lines_of(it[1:]))) for it in sources)) | set(crate_table.needs())
+    known |= set().union(*crate_table.needs().values())
+    for word in sorted({it for it in re.findall(r"`([A-Za-z_]+)`", text) if "NAME" not in it} - known):
+        find(document, f"nothing in the crates is called {word}")
 
 
 def check_map():
-    text = "\n".join(lines_of("docs/CHANGING.md"))
-    drawn = text.partition("```text")[2].partition("```")[0]
+    drawn = "\n".join(lines_of("docs/dev/CHANGING.md")).partition("```text")[2].partition("```")[0]
     for crate in crate_table.needs():
         if not re.search(rf"\b{crate}\b", drawn):
-            find("docs/CHANGING.md", f"{crate} isn't in the map")
-    if f"{crate_table.BEGIN}\n{crate_table.made()}\n{crate_table.END}" not in text:
-        find("docs/CHANGING.md", "the table of crates isn't what bench/crates.py makes")
+            find("docs/dev/CHANGING.md", f"{crate} isn't in the map")
+        if not os.path.isfile(f"{TOP}/crates/{crate}/README.md") or lines_of(f"crates/{crate}/README.md")[0] != f"# {crate}":
+            find(f"crates/{crate}/README.md", "it isn't there, or its heading isn't the crate's name")
 
 
 def blocks(document):
@@ -223,7 +202,8 @@ def run_shown(document, number, commands, wanted, room):
 
 def main():
     check_paths()
-    check_lines("--lines" in sys.argv[1:])
+    check_links()
+    check_theorem()
     check_map()
     if "--no-runs" not in sys.argv[1:]:
         check_runs()

@@ -1,11 +1,10 @@
 #!/usr/bin/env python3
 """Runs the merge gate and says what it costs: processor minutes by crate and by kind of work, and in all.
 
-Usage: bench/gate.py [--write] [WORD ..]
+Usage: bench/gate.py [WORD ..]
 
-WORDs are given to `rt ci`: `--anew` proves everything again, and without it only what isn't kept on this machine counts. With
---write the table of docs/CHANGING.md is made anew, with the date. What the gate says goes into bench-gate.log in the temporary
-folder. Each process of the prover is looked at every half second, so of each the last half second may be missing in the table;
+WORDs are given to `rt ci`: `--anew` proves everything again, and without it only what isn't kept on this machine counts. What the gate
+says goes into bench-gate.log in the temporary folder. Each process of the prover is looked at every half second, so of each the last half second may be missing in the table;
 the sum in all is the system's own count of the processor time of the run's children."""
 import datetime
 import os
@@ -19,7 +18,6 @@ import time
 TOP = os.path.dirname(os.path.dirname(os.path.abspath(__file__)))
 TICK = os.sysconf("SC_CLK_TCK")
 KINDS = ("proof", "tests", "edits")
-BEGIN, END = "<!-- made by bench/gate.py -->", "<!-- end -->"
 
 
 def crate_and_kind(words):
@@ -67,17 +65,8 @@ def table(seen):
     return [*lines, f"| together | {' | '.join(f'{it:.0f}' for it in sums)} |"]
 
 
-def write(lines, said):
-    path = f"{TOP}/docs/CHANGING.md"
-    with open(path) as file:
-        before, _, rest = file.read().partition(BEGIN)
-    after = rest.partition(END)[2]
-    with open(path, "w") as file:
-        file.write(f"{before}{BEGIN}\n{said}\n\n" + "\n".join(lines) + f"\n{END}{after}")
-
-
 def main():
-    words = [it for it in sys.argv[1:] if it != "--write"]
+    words = sys.argv[1:]
     log = f"{tempfile.gettempdir()}/bench-gate.log"
     seen, begun = {}, time.time()
     with open(log, "w") as out:
@@ -94,10 +83,7 @@ def main():
         f"{datetime.date.today()}, {len(os.sched_getaffinity(0))} processors, `{command}`"
         f": {minutes[0]:.0f} processor minutes in {minutes[1]:.0f} minutes; {last}."
     )
-    lines = table(seen)
-    print(said, *lines, sep="\n")
-    if "--write" in sys.argv[1:]:
-        write(lines, said)
+    print(said, *table(seen), sep="\n")
     return run.returncode
 
 

@@ -27,11 +27,13 @@ rounded_words() { [ "${options[method]-}" != rounded ] || printf ' --method roun
 
 # After `uncertified`: what the same command may be asked besides.
 advise_method() {
+  local usual=10
+  [ "$1" != span ] || usual=1000
   if [ "${options[method]-}" != rounded ]; then
     say "nothing is known of the model; ask again with '--method rounded'"
-  elif [ -z "${options[pivots]+given}" ]; then
+  elif [ "${options[pivots]-1000000}" -lt 1000000 ]; then
     say "nothing is known of the model; ask again with '--pivots 1000000'"
-  elif [ "$1" != explain ] && [ "${options[gap]-10}" -lt 1000 ]; then
+  elif [ "$1" != explain ] && [ "${options[gap]-$usual}" -lt 1000 ]; then
     say "nothing is known of the model; '--gap 1000' allows a thousandth"
   else
     say "nothing is known of the model; './osemosys help uncertified' says what may help"
@@ -74,6 +76,7 @@ word_of_line() {
   local words
   read -ra words <<<"$1"
   case $1 in
+    'refused changes '*) echo changes ;;
     'refused line '* | 'refused set '* | 'refused '*' record '* | 'refused too many '*) echo "${words[-1]}" ;;
     'refused plan Missing '* | 'refused proof Missing '* | 'refused no '* | 'refused too '*) echo "${words[2]}" ;;
     'uncertified width '*) echo "${words[2]}" ;;

@@ -157,13 +157,13 @@ try_unproved() {
   case ${1-} in check) most=3 ;; table | page) most=2 ;; compare) most=4 ;; make) most=0 ;; esac
   for word in "$@"; do
     if [ ${#words[@]} = 0 ] || [ -n "$is_value" ]; then
-      # (of the options' values those of --proof and --start are files)
-      if [[ $is_value == --proof || $is_value == --start ]] && [ -f "$word" ]; then
+      # (of the options' values those of --proof, --start, --with and --with2 are files)
+      if [[ $is_value =~ ^--(proof|start|with2?)$ ]] && [ -f "$word" ]; then
         files+=(--data "file${#words[@]}=$(readlink -f -- "$word")")
         word=file${#words[@]}
       fi
       is_value=
-    elif [[ $word == --proof=* || $word == --start=* ]] && [ -f "${word#*=}" ]; then
+    elif [[ $word =~ ^--(proof|start|with2?)= ]] && [ -f "${word#*=}" ]; then
       files+=(--data "file${#words[@]}=$(readlink -f -- "${word#*=}")")
       word=${word%%=*}=file${#words[@]}
     elif [[ $word == --?* ]]; then

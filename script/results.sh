@@ -2,18 +2,21 @@
 # All that a model comes to: `results FILE FOLDER [OPTIONS of solve]`.
 #
 # `room` is a hidden folder beside FOLDER, in which everything is made; `made`, in it, becomes FOLDER when it is whole. `child` is the
-# program at work. `tried` are the options that found what is written, `method` says by which method, and `checked` are the options by
-# which it is checked.
+# program at work. `tried` are the options that found what is written, `method` says by which method, `checked` are the options by which it
+# is checked, and `changes` is the one that names a file of changes, if there is one.
 child=
 method=
 tried=()
 checked=()
+changes=()
 
 # Solves once, and writes all that the answer comes to. It ends with the status of `solve`.
 results() {
-  local file=${plain[0]} folder status
+  local file=${plain[0]} folder status name
   folder=$(readlink -m -- "${plain[1]}")
-  [ -f "$file" ] || fail_results "$NO_FILE" "$file is read several times, so it has to be a file"
+  for name in "$file" ${options[with]+"${options[with]}"}; do
+    [ -f "$name" ] || fail_results "$NO_FILE" "$name is read several times, so it has to be a file"
+  done
   make_room "$folder"
   solve_for_results "$file"
   status=$?
@@ -83,13 +86,13 @@ advise_results() {
   esac
 }
 
-# The exact method first and, where it stops or the model is too large for it, guesses; or the method that is asked for, alone. Guesses
-# may take a million pivots where the words don't say how many.
+# The exact method first and, where it stops or the model is too large for it, guesses; or the method that is asked for, alone.
 solve_for_results() {
   local file=$1 name status given=()
   for name in "${!options[@]}"; do given+=("--$name=${options[$name]}"); done
   tried=("${given[@]}")
-  checked=("--gap=${options[gap]-0}" "--places=${options[places]-6}")
+  [ -z "${options[with]+given}" ] || changes=("--with=${options[with]}")
+  checked=("--gap=${options[gap]-0}" "--places=${options[places]-6}" "${changes[@]}")
   method='by the exact method'
   if [ "${options[method]-}" != rounded ]; then
     write_part proof.csv solve "${tried[@]}" --show=proof -- "$file"
@@ -98,7 +101,6 @@ solve_for_results() {
     say "the exact method ends with '$(<"$room/made/proof.csv")'; now by guesses that are checked exactly"
     tried+=(--method=rounded)
   fi
-  [ -n "${options[pivots]+given}" ] || tried+=(--pivots=1000000)
   checked[0]=--gap=${options[gap]-10}
   method='by guesses that were checked exactly'
   write_part proof.csv solve "${tried[@]}" --show=proof -- "$file"
@@ -112,7 +114,7 @@ wants_guesses() {
 # All but the proof, by the status of `solve`. A part that fails, as where the disk is full, ends it all.
 write_parts() {
   local file=$1 status=$2 proof=$room/made/proof.csv
-  need_part warnings.txt 0 warn -- "$file"
+  need_part warnings.txt 0 warn "${changes[@]}" -- "$file"
   if [ "$(stat -c %s "$proof")" -gt "$LONGEST_FILE" ]; then
     check_in_two "$file"
     return
@@ -178,7 +180,6 @@ explain_for_results() {
   status=$?
   if [ -z "${options[method]+given}" ] && [[ " ${given[*]} " != *' --method=rounded '* ]] && wants_guesses "$status" explain.txt; then
     given+=(--method=rounded)
-    [ -n "${options[pivots]+given}" ] || given+=(--pivots=1000000)
     write_part explain.txt explain "${given[@]}" -- "$file"
     status=$?
   fi

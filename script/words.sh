@@ -8,22 +8,22 @@ LONGEST_FILE=67108864
 # options, and how many of these are files; the options that it may have, those that it may have beside `--method rounded` alone, and
 # the one that it needs. `results` is the script's own.
 FORMS='
-results 2 2 1 gap,pivots,places,method start start
-results 2 2 1 gap,pivots,places,method - -
-mps 1 1 1 places - -
-check 2 3 3 gap,places - -
-check 1 1 1 gap,places,proof - proof
-solve 1 1 1 gap,pivots,places,show,method - -
-solve 1 1 1 gap,pivots,places,show,method start start
-explain 1 1 1 pivots,places,method - -
-curve 4 4 1 pivots,places,method gap -
-span 4 4 1 pivots,places,method,slack gap -
+results 2 2 1 gap,pivots,places,method,with start start
+results 2 2 1 gap,pivots,places,method,with - -
+mps 1 1 1 places,with - -
+check 2 3 3 gap,places,with - -
+check 1 1 1 gap,places,proof,with - proof
+solve 1 1 1 gap,pivots,places,show,method,with - -
+solve 1 1 1 gap,pivots,places,show,method,with start start
+explain 1 1 1 pivots,places,method,with - -
+curve 4 4 1 pivots,places,method,with gap -
+span 4 4 1 pivots,places,method,slack,with gap -
 make 1 1 0 show - -
-table 3 3 2 gap,places,exact - -
-page 2 2 2 gap,places - -
-warn 1 1 1 - - -
-compare 4 4 4 gap,places,show - -
-reduce 1 1 1 places - -'
+table 3 3 2 gap,places,exact,with - -
+page 2 2 2 gap,places,with - -
+warn 1 1 1 with - -
+compare 4 4 4 gap,places,show,with,with2 - -
+reduce 1 1 1 places,with - -'
 
 # What the words are made of, as `part_words` finds it: those that are no options, and the options by name; and the files among them, as
 # `find_form` finds them.
@@ -46,7 +46,7 @@ part_words() {
       name=${word%%=*} value=
       case $name in
         --exact) [[ $word != *=* ]] || return ;;
-        --gap | --pivots | --places | --show | --method | --slack | --proof | --start)
+        --gap | --pivots | --places | --show | --method | --slack | --proof | --start | --with | --with2)
           if [[ $word == *=* ]]; then
             value=${word#*=}
           elif [ $# -gt 0 ] && [[ $1 != -?* ]]; then
@@ -84,6 +84,8 @@ find_form() {
       may_have "$may" "$rounded" && { [ "$needs" = - ] || [ -n "${options[$needs]+given}" ]; } || continue
     files=("${plain[@]:0:many}")
     [ "$needs" = - ] || files+=("${options[$needs]}")
+    [ -z "${options[with]+given}" ] || files+=("${options[with]}")
+    [ -z "${options[with2]+given}" ] || files+=("${options[with2]}")
     return
   done <<<"$FORMS"
   return 1
