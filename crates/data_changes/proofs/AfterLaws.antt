@@ -1,8 +1,8 @@
 -- Complete data stay complete by changes that aren't refused, and their sets stay as they are.
-use Rattle.data_changes.proofs.Common.{◌≡◌, ◌∙◌, ℕ, ◌+◌, Bool, true, false, cond, List, [], ◌∷◌, None, Some, Option, Ok, Err, Result, ap, refl, sym, subst}
+use Rattle.data_changes.proofs.Common.{◌≡◌, ℕ, ◌+◌, Bool, true, false, cond, List, [], ◌∷◌, None, Some, Option, Ok, Err, Result, refl, subst}
 use Rattle.model_sets.specs.Data.{Data}
-use Rattle.param_tables.specs.Built.{AreComplete, Built}
-use Rattle.param_tables.specs.Changes.{Change, change_refusals, rounded_by, with_change}
+use Rattle.param_tables.specs.Built.{Built}
+use Rattle.param_tables.specs.Changes.{Change, change_refusals, with_change}
 use Rattle.param_tables.specs.InTurn.{first_of}
 use Rattle.param_tables.specs.Refusals.{Refusal}
 use Rattle.plan_files.specs.Files.{Fields, records_of}

@@ -1,26 +1,25 @@
 -- A change of which no value is refused keeps data complete.
-use Rattle.data_changes.proofs.Common.{◌≡◌, ◌∙◌, ℕ, ◌≤◌, ℤ, Bool, true, false, cond, List, [], ◌∷◌, ◌++◌, None, Some, Option, ap, refl, sym, subst}
+use Rattle.data_changes.proofs.Common.{◌≡◌, ℕ, ℤ, Bool, true, false, cond, List, [], ◌∷◌, ◌++◌, None, Some, Option, refl, subst}
 use Rattle.std.specs.List.{AllByRecursion, cons_option, filter_map, find}
 use Rattle.std.specs.Option.{option_and_then, option_map, option_or}
 use Rattle.std.specs.Ordering.{int_eq}
-use Rattle.std.specs.Prelude.{Contains, IfSome, IsSomeAnd, if◌then◌else◌, nat_eq, nat_le, unsigned_abs, ◌^◌, ◌&&◌}
+use Rattle.std.specs.Prelude.{IfSome, IsSomeAnd, if◌then◌else◌, nat_eq, nat_le, unsigned_abs, ◌^◌}
 use Rattle.std.proofs.lemmas.Bool.{and_parts, eqb-true, leb-true}
-use Rattle.model_sets.specs.Data.{Data, Given, IsUsedParam, default_of, given_at, indices_of, is_given_at, value_at, value_of_none}
+use Rattle.model_sets.specs.Data.{Data, Given, default_of, is_given_at, value_at, value_of_none}
 use Rattle.model_sets.specs.Params.{range_of}
 use Rattle.model_sets.specs.declared.params.Range.{Range}
 use Rattle.param_tables.specs.Built.{AreComplete, Built, IsValueIn}
 use Rattle.param_tables.specs.Canonical.{given_value}
 use Rattle.param_tables.specs.Changes.{Change, change_refusals, changed_at, changed_fault, changed_value, indices_named, refusal_of, with_change}
-use Rattle.param_tables.specs.Ranges.{range_fault, unless}
+use Rattle.param_tables.specs.Ranges.{range_fault}
 use Rattle.param_tables.specs.Refusals.{AtIndex}
 use Rattle.param_tables.specs.declared.fault.CellFault.{CellFault}
 use Rattle.param_tables.specs.declared.fault.CellFault.TheVariants.{OutOfRange}
 use Rattle.param_tables.proofs.KeptLaws.{complete_canonical, unmapped}
 use Rattle.param_tables.proofs.RangeRules.{ranges_are_told}
 use Rattle.data_changes.proofs.AfterLaws.{file_keeps}
-use Rattle.data_changes.specs.Faults.{ChangesFault}
 use Rattle.data_changes.specs.Files.{after_file}
-use Rattle.std.specs.Prelude.{Result, Ok}
+use Rattle.std.specs.Prelude.{Ok}
 
 no_option : {A : Type 0} (o : Option A) (xs : List A) → cons_option o xs ≡ [] → (o ≡ None) × (xs ≡ [])
 no_option None xs none = (refl, none)

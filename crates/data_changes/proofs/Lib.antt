@@ -5,4 +5,5 @@ pub mod ChangeLaws
 pub mod CompleteChanges
 pub mod FileLaws
 pub mod RecordLaws
+pub mod ScenarioLaws
 pub mod StepLaws

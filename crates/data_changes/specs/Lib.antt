@@ -2,4 +2,5 @@ pub mod Columns
 pub mod Faults
 pub mod Files
 pub mod Records
+pub mod Scenarios
 pub mod Told

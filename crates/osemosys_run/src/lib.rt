@@ -21,6 +21,7 @@ mod page_file;
 mod promised;
 mod reply;
 mod run;
+mod scenarios;
 mod sending;
 mod table_file;
 mod warned;

@@ -1,5 +1,5 @@
 // The top call: words, reading, accepting, answering, sending.
-ghost use Rattle.std.specs.Prelude.{◌≡◌, ◌≤◌, ◌⊎◌, ◌*ℤ◌, Bool, List, ℕ, ℤ, Ok, Some, true, Contains, IfOk, map};
+ghost use Rattle.std.specs.Prelude.{◌≡◌, ◌≤◌, ◌⊎◌, ◌*ℤ◌, ◌∷◌, [], Bool, List, ℕ, ℤ, Ok, Some, true, Contains, IfOk, map};
 ghost use Rattle.std.specs.String.{string_bytes};
 ghost use Rattle.io_edges.specs.Count.{Rose};
 ghost use Rattle.io_edges.specs.Told.{WhereTold};
@@ -8,6 +8,10 @@ ghost use Rattle.mathprog_data.specs.Verdicts.{FaultAt, Says};
 ghost use Rattle.mathprog_data.specs.declared.blocks.Mark.{Mark};
 ghost use Rattle.model_sets.specs.Data.{Data};
 ghost use Rattle.param_tables.specs.Built.{AreComplete};
+ghost use Rattle.param_tables.specs.Changes.{Change, with_change};
+ghost use Rattle.plan_files.specs.Files.{Fields, records_of};
+ghost use Rattle.data_changes.specs.Columns.{is_header};
+ghost use Rattle.data_changes.specs.Scenarios.{AreApart, IsIdle};
 ghost use Rattle.mps_meaning.specs.Programs.{Program};
 ghost use Rattle.mps_meaning.specs.Reading.{program_of};
 ghost use Rattle.mps_plans.specs.PlanPrograms.{IsProgramOf};
@@ -26,7 +30,7 @@ ghost use Rattle.row_core.specs.declared.RowName.{RowName};
 ghost use Rattle.row_core.specs.declared.Var.{Var};
 ghost use Rattle.command_answers.specs.declared.status.ReadStop.{ReadStop};
 ghost use Rattle.command_answers.specs.declared.status.Status.{Status};
-ghost use Rattle.command_answers.specs.Accepted.{Accepted, Source};
+ghost use Rattle.command_answers.specs.Accepted.{Accepted, Source, plain};
 ghost use Rattle.command_answers.specs.NotAccepted.{DueWhereNotAccepted};
 ghost use Rattle.command_answers.specs.SolvedPlans.{IsNearOptimum};
 ghost use Rattle.check_command.specs.CheckProof.{DueForProof, DueForProofFile};
@@ -64,6 +68,7 @@ use crate::files::{files_of, refuse_file};
 use crate::mps_program::mps_laws;
 use crate::promised::promised_laws;
 use crate::reply::Reply;
+use crate::scenarios::scenario_laws;
 use crate::warned::warned_laws;
 use call_stages::{Stage, Unwatched, Watcher};
 use command_answers::{Status, acceptance_laws, refuse_words};
@@ -175,6 +180,13 @@ pub fn osemosys<S: Shelf, K: Sink>(
         DueWhereNotAccepted source status line → DueWhereNotAccepted source other another → line ≡ another }
     ensures not_accepted { (source : Source) (d : Data) (status : Status) (line : List ℕ) → Accepted source d → DueWhereNotAccepted source status line → ⊥ }
 
+    // A file of changes that has its header alone changes nothing, nor does a change that multiplies by 1 or adds 0; and changes that name no index in
+    // common may be made in either order.
+    ensures header_alone { (text changes : List ℕ) (header : Fields) (d : Data) → records_of changes ≡ header ∷ [] → is_header header ≡ true
+        → Accepted (plain text) d → Accepted (record { text = text; changes = Some changes }) d }
+    ensures idle { (source : Source) (d : Data) (change : Change) → Accepted source d → IsIdle change → with_change d change ≡ d }
+    ensures either_order { (d : Data) (a b : Change) → AreApart d a b → with_change (with_change d a) b ≡ with_change (with_change d b) a }
+
     // The text that `mps` writes of accepted data is a linear program of the plans: it reads, as free MPS, as one whose columns are the
     // variables that exist and whose rows say what the equations say, which the values of a plan meet exactly where the plan is
     // feasible, and which costs what the plan costs.
@@ -229,6 +241,7 @@ pub fn osemosys<S: Shelf, K: Sink>(
     // The laws that the clauses of their names state.
     verdict_laws();
     acceptance_laws();
+    scenario_laws();
     mps_laws();
     spelled_parts();
     quantity_laws();
