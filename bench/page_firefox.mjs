@@ -51,8 +51,10 @@ for (const name of pages) {
   const answer = await call('script.evaluate', { expression: `(${seen})()`, target: { context }, awaitPromise: false });
   const page = JSON.parse(answer.result.value), isSolved = files.said(name).every(said => said.startsWith('accepted\n'));
   const sums = files.tables(name).map(text => createHash('sha256').update(text).digest('hex'));
+  // two plans that are the same have no chart
+  const isAlike = sums.length === 2 && sums[0] === sums[1];
   const isRight = page.isDrawn && !page.troubles && JSON.stringify(page.sums) === JSON.stringify(sums)
-    && (!isSolved || (page.charts > 0 && page.rows > 0)) && !errors.length;
+    && (!isSolved || isAlike || (page.charts > 0 && page.rows > 0)) && !errors.length;
   if (isRight) continue;
   wrong++;
   console.log(`wrong: ${name} in Firefox`, JSON.stringify([page, errors]).slice(0, 1500));

@@ -84,8 +84,8 @@ fi
 
 # The script, where neither the program nor rt is there. It says so on standard error.
 mkdir script bin
-cp "$top/osemosys" script/
-for tool in bash env dirname readlink; do ln -s "$(command -v $tool)" bin/; done
+cp -r "$top/osemosys" "$top/script" script/
+for tool in bash env dirname readlink stat; do ln -s "$(command -v $tool)" bin/; done
 PATH=$work/bin script/osemosys mps "$base" >out 2>told </dev/null
 status=$?
 : >err
