@@ -20,7 +20,7 @@ positive_sum sum = int_lt (pos 0) sum
 
 -- ---- where all conditions hold
 
-passed : (places : ℕ) (d : Data) (rows : List Row) (plan : List (Var × Rational)) (multipliers : List (RowName × Rational)) (gap : ℕ) (status : Status) (text : List ℕ)
+pub passed : (places : ℕ) (d : Data) (rows : List Row) (plan : List (Var × Rational)) (multipliers : List (RowName × Rational)) (gap : ℕ) (status : Status) (text : List ℕ)
     → AllPass (check_conditions d rows plan (Some multipliers) gap) → DueForPlan places d rows plan (Some multipliers) gap status text → status ≡ Done
 passed places d rows plan multipliers gap status text pass (inl accepted) = accepted.status_is
 passed places d rows plan multipliers gap status text pass (inr (inl rejected)) = absurd (cc (sym pass.hold ∙ rejected.fails.fails))
@@ -31,6 +31,28 @@ said : (d : Data) (cs : List Condition) (Worth : Type 0) (words : List ℕ) (sta
 said d cs Worth words status text pass (inl shown) = (shown.status_is, shown.text_is)
 said d cs Worth words status text pass (inr (inl not)) = absurd (cc (sym pass.hold ∙ not.fails.fails))
 said d cs Worth words status text pass (inr (inr wide)) = absurd (cc (sym pass.fit ∙ wide.wide))
+
+-- multipliers that have the values of some that prove a bound over rows of the same instances
+module _ (places : ℕ) (d : Data) (gap : ℕ) (rows others : List Row) (are : AreRowsOf places d (instances d) rows) (so : AreRowsOf places d (instances d) others) (multipliers kept : List (RowName × Rational))
+    (alike : (name : RowName) → value_in row_name_cmp kept name ≡ value_in row_name_cmp multipliers name) where
+  kept-values : value_in row_name_cmp multipliers ≡ value_in row_name_cmp kept
+  kept-values = fun_ext (λ name. sym (alike name))
+
+  bounds : multiplier_bound rows multipliers ≡ multiplier_bound others kept
+  bounds = ap (bound_value rows) kept-values ∙ same-bound rows others (same-contents places d (instances d) rows others are so) (value_in row_name_cmp kept)
+
+  -- with a plan whose own conditions hold, and whose cost is near that bound, all conditions hold
+  pub optimum-passes : (plan : List (Var × Rational)) (cost bound : Rational) → AllPass (plan_conditions model_cost others (all_variables d) plan) → cost ≡ plan_cost d plan
+      → IsBound rows (all_variables d) multipliers bound → IsNear cost bound gap → AllPass (check_conditions d others plan (Some kept) gap)
+  optimum-passes plan cost bound pass cost_is proved near =
+      pass-after (plan_conditions model_cost others (all_variables d) plan)
+      (bound_conditions model_cost others (all_variables d) kept ++ gap_condition (plan_cost d plan) (multiplier_bound others kept) gap ∷ []) pass
+      (pass-after (bound_conditions model_cost others (all_variables d) kept) (gap_condition (plan_cost d plan) (multiplier_bound others kept) gap ∷ [])
+      (subst AllPass
+      (ap (conditions_by any_sum model_cost rows (all_variables d)) kept-values
+      ∙ same-multipliers rows others (same-contents places d (instances d) rows others are so) any_sum model_cost (all_variables d) (value_in row_name_cmp kept)) proved.pass)
+      (subst (λ (b : Rational). AllPass (gap_condition (plan_cost d plan) b gap ∷ [])) (proved.bound_is ∙ bounds)
+      (subst (λ (c : Rational). AllPass (gap_condition c bound gap ∷ [])) cost_is near.pass)))
 
 module _ (laws : ProofLaws) (places : ℕ) (d : Data) (bytes : List ℕ) (gap : ℕ) (status : Status) (text : List ℕ) (rows others : List Row) (are : AreRowsOf places d (instances d) rows)
     (so : AreRowsOf places d (instances d) others) where
@@ -50,20 +72,11 @@ module _ (laws : ProofLaws) (places : ℕ) (d : Data) (bytes : List ℕ) (gap : 
     values : value_in row_name_cmp multipliers ≡ value_in row_name_cmp kept
     values = fun_ext (λ name. sym (alike name))
 
-    bounds : multiplier_bound rows multipliers ≡ multiplier_bound others kept
-    bounds = ap (bound_value rows) values ∙ same-bound rows others same (value_in row_name_cmp kept)
-
     pub optimum-accepted : (plan : List (Var × Rational)) (cost bound : Rational) → IsPlan rows vars plan cost → IsBound rows vars multipliers bound → IsNear cost bound gap
         → IsProof d.sets vars (instances d) (records_of bytes) (Optimum plan kept) → DueForProofFile places d others bytes gap status text → status ≡ Done
     optimum-accepted plan cost bound is proved near told due =
         passed places d others plan kept gap status text
-        (pass-after (plan_conditions model_cost others vars plan) (bound_conditions model_cost others vars kept ++ gap_condition (plan_cost d plan) (multiplier_bound others kept) gap ∷ [])
-        (subst AllPass (same-plan rows others same model_cost vars plan) is.pass)
-        (pass-after (bound_conditions model_cost others vars kept) (gap_condition (plan_cost d plan) (multiplier_bound others kept) gap ∷ [])
-        (subst AllPass
-        (ap (conditions_by any_sum model_cost rows vars) values ∙ same-multipliers rows others same any_sum model_cost vars (value_in row_name_cmp kept)) proved.pass)
-        (subst (λ (b : Rational). AllPass (gap_condition (plan_cost d plan) b gap ∷ [])) (proved.bound_is ∙ bounds)
-        (subst (λ (c : Rational). AllPass (gap_condition c bound gap ∷ [])) is.cost_is near.pass))))
+        (optimum-passes places d gap rows others are so multipliers kept alike plan cost bound (subst AllPass (same-plan rows others same model_cost vars plan) is.pass) is.cost_is proved near)
         (told-so (Optimum plan kept) told due)
 
     pub refutation-accepted : IsRefutation rows vars multipliers → IsProof d.sets vars (instances d) (records_of bytes) (Refutation kept) → DueForProofFile places d others bytes gap status text

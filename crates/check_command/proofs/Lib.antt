@@ -9,4 +9,4 @@ pub mod OutcomeLaws
 mod ProofExamples
 mod ProofLaws
 mod ProofNames
-mod RowContents
+pub mod RowContents

@@ -38,7 +38,7 @@ any_has [] v passes = absurd (true≢false (sym passes))
 any_has (w ∷ vs) v passes =
     elim (or_cases (nat_eq v w) (list_any (nat_eq v) vs) passes) [ inl here ↦ inl (sym (eqb-true v w here)) | inr later ↦ inr (any_has vs v later) ]
 
-has_any : (vs : List ℕ) (v : ℕ) → Has vs v → list_any (nat_eq v) vs ≡ true
+pub has_any : (vs : List ℕ) (v : ℕ) → Has vs v → list_any (nat_eq v) vs ≡ true
 has_any [] v h = absurd h
 has_any (w ∷ vs) v (inl e) = ap (λ b. b || list_any (nat_eq v) vs) (eq-eqb v w (sym e))
 has_any (w ∷ vs) v (inr h) = either (nat_eq v w) (list_any (nat_eq v) vs) (has_any vs v h)

@@ -33,6 +33,8 @@ pub mod SumExchange
 pub mod SameValues
 pub mod SameParameters
 pub mod SameConditions
+pub mod SameConstants
 pub mod SameEquations
 pub mod SameStands
 pub mod SameInstances
+pub mod AlikeData

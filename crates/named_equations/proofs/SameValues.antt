@@ -1,6 +1,7 @@
--- Two data that are the same: with the sets of one, the values of both agree at positions in the sets. Sums, lists and choices over a set
+-- Two data that are the same, or the same but for numbers that one equation alone reads: with the sets of one, the values of both agree at positions in the sets. Sums, lists and choices over a set
 -- are the same where what they are made of is the same at each position of the set.
-use Rattle.named_equations.proofs.Common.{◌≡◌, ℕ, zero, suc, ◌+◌, ◌<◌, Bool, cond, pos, ◌+ℤ◌, List, [], ◌∷◌, map, filter, length, refl, ap, ap₂, ◌∙◌, arith, inl, inr, flat_map, list_any, range_with_len, Data, Default, Given, IsUsedParam, indices_of, indices_over, value_at, SetLists, members, subscript_sets, sum_over, value_of, Has, Has-flat_map, Has-map, Contains-from_Has}
+use Rattle.named_equations.proofs.Common.{◌≡◌, ℕ, zero, suc, ◌+◌, ◌<◌, Bool, true, cond, not, pos, ◌+ℤ◌, List, [], ◌∷◌, map, filter, length, refl, ap, ap₂, ◌∙◌, arith, inl, inr, flat_map, list_any, range_with_len, Data, Default, Given, IsUsedParam, indices_of, indices_over, value_at, SetLists, members, subscript_sets, sum_over, value_of, Has, Has-flat_map, Has-map, Contains-from_Has}
+use Rattle.named_equations.specs.Constants.{AreWithin, names_within, read_alone, value_within}
 use Rattle.std.specs.Prelude.{ℤ, ◌||◌, ◌++◌, slice_index_or, unwrap_or, Contains}
 
 infixr 3 ◌also◌
@@ -14,22 +15,21 @@ a also b = (a, b)
 abbrev pub with_values : Data → List Given → List Default → Data
 with_values d given defaults = record { sets = d.sets; given = given; defaults = defaults; second = d.second }
 
--- each used parameter has the same value at each of its indices
-pub record Agree (d : Data) (given : List Given) (defaults : List Default) : Type 0 where
-  pub values : (param : ℕ) → IsUsedParam d param → (index : List (List ℕ)) → Contains (indices_of d.sets param) index → value_at d param index ≡ value_at (with_values d given defaults) param index
+-- each used parameter of these has the same value at each position in its sets
+pub record AgreeIn (wanted : ℕ → Bool) (d : Data) (given : List Given) (defaults : List Default) : Type 0 where
+  pub values : (param : ℕ) → wanted param ≡ true → IsUsedParam d param → (is : List ℕ) → AreWithin d.sets (subscript_sets param) is
+      → value_within d param is ≡ value_within (with_values d given defaults) param is
 
--- the positions are those of members, one of each of these sets
-abbrev pub AreWithin : SetLists → List ℕ → List ℕ → Type 0
-AreWithin sets [] [] = Unit {0}
-AreWithin sets [] (i ∷ is) = ⊥
-AreWithin sets (k ∷ ks) [] = ⊥
-AreWithin sets (k ∷ ks) (i ∷ is) = (i < length (members sets k)) × AreWithin sets ks is
+-- of all
+abbrev pub AgreeInAll : Data → List Given → List Default → Type 0
+AgreeInAll d given defaults = AgreeIn (λ param. true) d given defaults
 
--- the names of the members at these positions
-abbrev pub names_within : SetLists → List ℕ → List ℕ → List (List ℕ)
-names_within sets [] is = []
-names_within sets (k ∷ ks) [] = []
-names_within sets (k ∷ ks) (i ∷ is) = slice_index_or (members sets k) i [] ∷ names_within sets ks is
+-- of all that more than one equation reads
+abbrev pub Agree : Data → List Given → List Default → Type 0
+Agree d given defaults = AgreeIn (λ param. not (read_alone param)) d given defaults
+
+pub agree-but : {d : Data} {given : List Given} {defaults : List Default} → AgreeInAll d given defaults → Agree d given defaults
+agree-but same = record { values = λ param shared used is within. same.values param refl used is within }
 
 has_at : {A : Type 0} (xs : List A) (i : ℕ) (e : A) → i < length xs → Has xs (slice_index_or xs i e)
 has_at [] i e inside = absurd (omega (arith, inside))
@@ -47,13 +47,11 @@ among_indices sets (k ∷ ks) (i ∷ is) within =
     (has_at (members sets k) i [] within.0)
     (Has-map (λ more. name ∷ more) (indices_over sets ks) rest (among_indices sets ks is within.1))
 
--- the value of a used parameter at positions in its sets
-pub value-same : {d : Data} {given : List Given} {defaults : List Default} → Agree d given defaults → (param : ℕ) → IsUsedParam d param → (is : List ℕ) → AreWithin d.sets (subscript_sets param) is
-    → value_of d param (names_within d.sets (subscript_sets param) is) ≡ value_of (with_values d given defaults) param (names_within d.sets (subscript_sets param) is)
-value-same {d = d} {given = given} {defaults = defaults} same param used is within =
+-- the names at positions in the sets of a parameter are an index of it
+pub index-within : (d : Data) (param : ℕ) (is : List ℕ) → AreWithin d.sets (subscript_sets param) is → Contains (indices_of d.sets param) (names_within d.sets (subscript_sets param) is)
+index-within d param is within =
     let index : List (List ℕ) = names_within d.sets (subscript_sets param) is in
-    let has : Contains (indices_of d.sets param) index = Contains-from_Has (indices_of d.sets param) index (among_indices d.sets (subscript_sets param) is within) in
-    ap (λ value. unwrap_or value (pos 0)) (same.values param used index has)
+    Contains-from_Has (indices_of d.sets param) index (among_indices d.sets (subscript_sets param) is within)
 
 -- ---- over the positions of a set
 

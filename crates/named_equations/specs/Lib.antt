@@ -3,6 +3,7 @@ pub mod ActivityLimits
 pub mod Capacity
 pub mod CapacityLimits
 pub mod CapitalCosts
+pub mod Constants
 pub mod Demand
 pub mod DiscountedCosts
 pub mod Emissions

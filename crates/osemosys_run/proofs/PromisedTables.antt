@@ -13,23 +13,42 @@ use Rattle.certificate_checker.specs.MultiplierChecks.{bound_conditions}
 use Rattle.certificate_checker.specs.PlanChecks.{plan_conditions}
 use Rattle.certificate_checker.proofs.ConditionLaws.{fails_before, passed_first, wide_before}
 use Rattle.plan_files.specs.Records.{row_fields}
+use Rattle.plan_quantities.specs.DataPrices.{IsPromisedOverData}
+use Rattle.plan_quantities.specs.Percents.{IsShownPercentPromised}
 use Rattle.plan_quantities.specs.RowPrices.{IsRowPromised}
 use Rattle.plan_quantities.specs.ShownRows.{IsToBeShown}
+use Rattle.plan_quantities.specs.SpokenRows.{AreSpokenOf, HaveEntries}
 use Rattle.data_tables.specs.DataNames.{data_table_named}
 use Rattle.plan_tables.specs.TableNames.{table_named}
 use Rattle.price_tables.specs.declared.shown.PriceTable.{PriceTable}
 use Rattle.price_tables.specs.PriceAmounts.{row_price}
 use Rattle.price_tables.specs.PricedRows.{price_table_named, priced_rows}
 use Rattle.table_command.specs.declared.shown.Shown.TheVariants.{Data as OfData, Page, Prices, Values}
-use Rattle.osemosys_run.specs.Promised.{ArePricesPromised, IsPromisedTable}
+use Rattle.osemosys_run.specs.Promised.{IsPromisedTable}
 
--- the law on a table of prices
-abbrev pub TableLaw : Type 0
-TableLaw =
+-- what the multipliers of a proof, over a bound, promise of each row of a table and its variable
+abbrev pub TablePromise : Type 1
+TablePromise = ℕ → Data → List (RowName × Rational) → Rational → Row × Var → Type 0
+
+-- the law that they do
+abbrev pub TableLaw : TablePromise → Type 0
+TableLaw P =
     (places : ℕ) (d : Data) (rows : List Row) (s : ℕ) (y : RowName → ℤ) (multipliers : List (RowName × Rational)) (bound : Rational) (table : PriceTable)
     → AreRowsOf places d (instances d) rows → Proves model_cost rows (all_variables d) s y
     → AreMultipliersOver s y multipliers → IsOver (pos s) bound (bound_of y rows)
-    → AllByRecursion (λ e. IsRowPromised places d e.0.name e.1 bound (row_price multipliers e.0 e.1)) (priced_rows table multipliers rows)
+    → AllByRecursion (P places d multipliers bound) (priced_rows table multipliers rows)
+
+-- a price of the equation, and of the data
+abbrev pub ByEquation : TablePromise
+ByEquation places d multipliers bound e = IsRowPromised places d e.0.name e.1 bound (row_price multipliers e.0 e.1)
+
+abbrev pub ByData : TablePromise
+ByData places d multipliers bound e = IsPromisedOverData places d e.0.name bound (row_price multipliers e.0 e.1)
+
+pub record TableLaws : Type 0 where
+  pub prices : TableLaw ByEquation
+  pub over_data : TableLaw ByData
+  pub percents : TableLaw IsShownPercentPromised
 
 -- ---- conditions after others
 
@@ -66,6 +85,13 @@ ShownRowLaw =
     (places : ℕ) (d : Data) (table : PriceTable) (multipliers : List (RowName × Rational)) (rows : List Row) (row : Row) → IsToBeShown places d table row.name → Contains rows row
     → (value_in row_name_cmp multipliers row.name).top ≢ pos 0 → (p : Var) × Contains (priced_rows table multipliers rows) (row, p)
 
+-- the law that each row that a table shows speaks of its variable, with an entry there
+pub record SpokenRowLaw : Type 0 where
+  pub spoken : (places : ℕ) (d : Data) (table : PriceTable) (multipliers : List (RowName × Rational)) (rows : List Row) → AreRowsOf places d (instances d) rows
+      → AreSpokenOf places (priced_rows table multipliers rows)
+  pub entries : (places : ℕ) (d : Data) (table : PriceTable) (multipliers : List (RowName × Rational)) (rows : List Row) → AreRowsOf places d (instances d) rows
+      → HaveEntries (priced_rows table multipliers rows)
+
 positive_of : (s : ℕ) → 0 < s → pos 0 <ℤ pos s
 positive_of s h = omega (arith, ints)
 
@@ -73,20 +99,21 @@ positive_of s h = omega (arith, ints)
 abbrev pub DenominatorLaw : Type 0
 DenominatorLaw = (entries : List (RowName × Rational)) → AllByRecursion HasPositiveBottom entries → AreOverSome row_name_cmp entries
 
-module _ (laws : ProofLaws) (law : TableLaw) (complete : ShownRowLaw) (denominators : DenominatorLaw) (places : ℕ) (d : Data) (bytes : List ℕ) (gap : ℕ) where
+module _ (laws : ProofLaws) (law : TableLaws) (complete : ShownRowLaw) (of_rows : SpokenRowLaw) (denominators : DenominatorLaw) (places : ℕ) (d : Data) (bytes : List ℕ) (gap : ℕ) where
   abbrev vars : List Var
   vars = all_variables d
 
-  -- multipliers whose conditions pass prove their bound, and so promise each price
-  promised-by : (rows : List Row) (multipliers : List (RowName × Rational)) (table : PriceTable) → AreRowsOf places d (instances d) rows → AllPass (bound_conditions model_cost rows vars multipliers)
-      → (s : ℕ) (y : RowName → ℤ) → AreMultipliersOver s y multipliers → ArePricesPromised places d rows multipliers table
-  promised-by rows multipliers table are pass s y over =
+  -- multipliers whose conditions pass prove their bound, and so keep each promise
+  promised-by : (P : TablePromise) → TableLaw P → (rows : List Row) (multipliers : List (RowName × Rational)) (table : PriceTable) → AreRowsOf places d (instances d) rows
+      → AllPass (bound_conditions model_cost rows vars multipliers) → (s : ℕ) (y : RowName → ℤ) → AreMultipliersOver s y multipliers
+      → AllByRecursion (P places d multipliers (multiplier_bound rows multipliers)) (priced_rows table multipliers rows)
+  promised-by P of_table rows multipliers table are pass s y over =
       let value = value_in row_name_cmp multipliers in
       let positive : pos 0 <ℤ pos s = positive_of s over.0 in
       let each : (name : RowName) → IsOver (pos s) (value name) (y name) = over.1 in
       let hold : first_failing (bound_conditions model_cost rows vars multipliers) ≡ None = pass.hold in
       let proves : Proves model_cost rows vars s y = search (rules, proves_from) in
-      law places d rows s y multipliers (multiplier_bound rows multipliers) table are proves over
+      of_table places d rows s y multipliers (multiplier_bound rows multipliers) table are proves over
       (bound-over s y value (positive_of s over.0) over.1 rows)
 
   -- the conditions of an accepted optimum pass, among them those of its multipliers
@@ -111,6 +138,8 @@ module _ (laws : ProofLaws) (law : TableLaw) (complete : ShownRowLaw) (denominat
       → IsPromisedTable places d bytes table form text
   of-proof rows table form text (Optimum plan multipliers) said are told due shows =
       let some = denominators multipliers (all_positive (row_fields d.sets) told.rows multipliers told.told.3.values) in
+      let pass = accepted-pass rows plan multipliers said due in
+      let over : AreMultipliersOver some.over some.number multipliers = (some.positive, some.each) in
       record {
         rows = rows;
         plan = plan;
@@ -119,7 +148,11 @@ module _ (laws : ProofLaws) (law : TableLaw) (complete : ShownRowLaw) (denominat
         told = told;
         text_is = shows.1;
         complete = λ row given shown nonzero. complete places d table multipliers rows row shown given nonzero;
-        promised = promised-by rows multipliers table are (accepted-pass rows plan multipliers said due) some.over some.number (some.positive, some.each);
+        spoken = of_rows.spoken places d table multipliers rows are;
+        entries = of_rows.entries places d table multipliers rows are;
+        promised = promised-by ByEquation law.prices rows multipliers table are pass some.over some.number over;
+        over_data = promised-by ByData law.over_data rows multipliers table are pass some.over some.number over;
+        percents = promised-by IsShownPercentPromised law.percents rows multipliers table are pass some.over some.number over;
       }
   of-proof rows table form text (Refutation multipliers) said are told due shows = absurd (cc shows.0)
   of-proof rows table form text (Descent plan direction) said are told due shows = absurd (cc shows.0)

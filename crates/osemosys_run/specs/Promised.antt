@@ -15,8 +15,11 @@ use Rattle.check_command.specs.Check.{multiplier_bound}
 use Rattle.plan_files.specs.Files.{records_of}
 use Rattle.proof_files.specs.Proofs.{IsProof}
 use Rattle.proof_files.specs.declared.proof.Proof.TheVariants.{Optimum}
+use Rattle.plan_quantities.specs.DataPrices.{IsPromisedOverData}
+use Rattle.plan_quantities.specs.Percents.{IsShownPercentPromised}
 use Rattle.plan_quantities.specs.RowPrices.{IsRowPromised}
 use Rattle.plan_quantities.specs.ShownRows.{IsToBeShown}
+use Rattle.plan_quantities.specs.SpokenRows.{AreSpokenOf, HaveEntries}
 use Rattle.plan_tables.specs.declared.shown.NumberForm.{NumberForm}
 use Rattle.price_tables.specs.declared.shown.PriceTable.{PriceTable}
 use Rattle.price_tables.specs.PriceAmounts.{row_price}
@@ -41,3 +44,10 @@ pub record IsPromisedTable (places : ℕ) (d : Data) (bytes : List ℕ) (table :
   -- each limit, or balance of a fuel, whose multiplier isn't 0 is among the rows that the text shows
   pub complete : (row : Row) → Contains rows row → IsToBeShown places d table row.name → (value_in row_name_cmp multipliers row.name).top ≢ pos 0
       → (p : Var) × Contains (priced_rows table multipliers rows) (row, p)
+  -- the variable of each row that is shown is alone on a side of the row's equation, in the data's unit, and the row has an entry other than 0 there
+  pub spoken : AreSpokenOf places (priced_rows table multipliers rows)
+  pub entries : HaveEntries (priced_rows table multipliers rows)
+  -- of the data: a plan of the data with another limit or another demand in the place of a row's costs at least the bound and the price times what is more
+  pub over_data : AllByRecursion (λ e. IsPromisedOverData places d e.0.name (multiplier_bound rows multipliers) (row_price multipliers e.0 e.1)) (priced_rows table multipliers rows)
+  -- what one per cent more of a limit saves at most, where the text tells a number
+  pub percents : AllByRecursion (IsShownPercentPromised places d multipliers (multiplier_bound rows multipliers)) (priced_rows table multipliers rows)

@@ -63,10 +63,10 @@ other_met x name other passes = by_name (is_eq (row_name_cmp name (balance_at he
     by_name false is passes = holds_sound (says 6 one_technology 1 x name) passes
 
 -- the variable is free, or at least 0
-abbrev keeps_sign : (Var → ℤ) → Var → Bool
+abbrev pub keeps_sign : (Var → ℤ) → Var → Bool
 keeps_sign x v = kind_is_free v.kind || int_le (pos 0) (x v)
 
-sign_of : (free : Bool) (value : ℤ) → (free || int_le (pos 0) value) ≡ true → free ≡ false → pos 0 ≤ℤ value
+pub sign_of : (free : Bool) (value : ℤ) → (free || int_le (pos 0) value) ≡ true → free ≡ false → pos 0 ≤ℤ value
 sign_of true value kept fixed = absurd (true≢false fixed)
 sign_of false value kept fixed = grind (arith, ints)
 

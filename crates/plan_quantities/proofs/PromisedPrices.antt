@@ -7,10 +7,10 @@ use Rattle.price_tables.specs.PricedRows.{priced_kind, priced_rows, priced_varia
 
 -- ---- elements of a list
 
-first : (row : Row) (rows : List Row) → Contains (row ∷ rows) row
+pub first : (row : Row) (rows : List Row) → Contains (row ∷ rows) row
 first row rows = (0, omega arith, refl)
 
-later : (row other : Row) (rows : List Row) → Contains rows other → Contains (row ∷ rows) other
+pub later : (row other : Row) (rows : List Row) → Contains rows other → Contains (row ∷ rows) other
 later row other rows (k, within, is) = (suc k, omega (arith, within), is)
 
 -- ---- the rows of a table
@@ -25,7 +25,7 @@ module _ (table : PriceTable) (multipliers : List (RowName × Rational)) (P : Ro
   by_kind row (Some kind) rest here all =
       by_multiplier row (priced_variable kind row.name.index) (is_zero (value_in row_name_cmp multipliers row.name).top) rest (here (priced_variable kind row.name.index)) all
 
-  of_priced : (rows : List Row) → ((row : Row) (p : Var) → Contains rows row → P (row, p)) → AllByRecursion P (priced_rows table multipliers rows)
+  pub of_priced : (rows : List Row) → ((row : Row) (p : Var) → Contains rows row → P (row, p)) → AllByRecursion P (priced_rows table multipliers rows)
   of_priced [] all = tt
   of_priced (row ∷ rows) all =
       by_kind row (priced_kind table row.name.eq) (priced_rows table multipliers rows) (λ p. all row p (first row rows)) (of_priced rows (λ other p given. all other p (later row other rows given)))

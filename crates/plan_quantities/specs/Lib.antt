@@ -4,3 +4,6 @@ pub mod Quantities
 pub mod Prices
 pub mod RowPrices
 pub mod ShownRows
+pub mod DataPrices
+pub mod Percents
+pub mod SpokenRows

@@ -17,12 +17,15 @@ ghost use Rattle.row_book.specs.Books.{AreRowsOf};
 ghost use Rattle.certificate_checker.specs.Certificates.{AreMultipliersOver, Proves, bound_of};
 ghost use Rattle.certificate_checker.specs.Costs.{model_cost};
 ghost use Rattle.plan_quantities.specs.CostSums.{cost_of_year, three_factors};
+ghost use Rattle.plan_quantities.specs.DataPrices.{IsPromisedOverData};
+ghost use Rattle.plan_quantities.specs.Percents.{IsShownPercentPromised};
 ghost use Rattle.plan_quantities.specs.Prices.{FeasibleWithMore, IsPromised, balance_at, price_of, price_over};
 ghost use Rattle.plan_quantities.specs.Quantities.{AreQuantities};
 ghost use Rattle.plan_quantities.specs.RowPrices.{FeasibleWithLess, IsRowPromised, row_price_over};
 ghost use Rattle.price_tables.specs.declared.shown.PriceTable.{PriceTable};
 ghost use Rattle.price_tables.specs.PriceAmounts.{row_price};
 ghost use Rattle.plan_quantities.specs.ShownRows.{IsToBeShown};
+ghost use Rattle.plan_quantities.specs.SpokenRows.{AreSpokenOf, HaveEntries, MovesByUnit, SpeaksOf};
 ghost use Rattle.price_tables.specs.PricedRows.{priced_rows};
 ghost use Rattle.row_core.specs.Order.{row_name_cmp};
 ghost use Rattle.row_core.specs.Plans.{value_in};
@@ -86,4 +89,34 @@ pub fn shown_row_laws()
     ensures { (places : ℕ) (d : Data) (table : PriceTable) (multipliers : List (RowName × Rational)) (rows : List Row) (row : Row)
         → IsToBeShown places d table row.name → Contains rows row → (value_in row_name_cmp multipliers row.name).top ≢ pos 0
         → (p : Var) × Contains (priced_rows table multipliers rows) (row, p) }
+{}
+
+/// Of the rows of the equations, each that a table of prices shows speaks of the variable beside it: this one is alone on a side of the row's equation,
+/// with the factor 1, and the row has an entry other than 0 there. With more of a variable of which an equation speaks, one side of it is above the other by
+/// as much more, in the data's unit.
+pub fn spoken_row_laws()
+    ensures spoken { (places : ℕ) (d : Data) (table : PriceTable) (multipliers : List (RowName × Rational)) (rows : List Row)
+        → AreRowsOf places d (instances d) rows → AreSpokenOf places (priced_rows table multipliers rows) }
+    ensures entries { (places : ℕ) (d : Data) (table : PriceTable) (multipliers : List (RowName × Rational)) (rows : List Row)
+        → AreRowsOf places d (instances d) rows → HaveEntries (priced_rows table multipliers rows) }
+    ensures moves { (places : ℕ) (name : RowName) (p : Var) → SpeaksOf places name p → MovesByUnit places name p }
+{}
+
+/// Where multipliers prove a bound over the rows of the equations, each price of a table is promised over the data. A plan that is feasible of the data with another limit or
+/// another annual demand, with which the equation still stands, and with all else as it is, costs at least the bound and the price times what that
+/// number is more; and so of the demand of a timeslice.
+pub fn data_price_laws()
+    ensures { (places : ℕ) (d : Data) (rows : List Row) (s : ℕ) (y : RowName → ℤ) (multipliers : List (RowName × Rational)) (bound : Rational) (table : PriceTable)
+        → AreRowsOf places d (instances d) rows → Proves model_cost rows (all_variables d) s y
+        → AreMultipliersOver s y multipliers → IsOver (pos s) bound (bound_of y rows)
+        → AllByRecursion (λ e. IsPromisedOverData places d e.0.name bound (row_price multipliers e.0 e.1)) (priced_rows table multipliers rows) }
+{}
+
+/// Where multipliers prove a bound over the rows of the equations, what one per cent more of a limit saves at most is promised: a plan that meets the row's
+/// equation with a hundredth of the limit more costs at least the bound, less that.
+pub fn percent_laws()
+    ensures { (places : ℕ) (d : Data) (rows : List Row) (s : ℕ) (y : RowName → ℤ) (multipliers : List (RowName × Rational)) (bound : Rational) (table : PriceTable)
+        → AreRowsOf places d (instances d) rows → Proves model_cost rows (all_variables d) s y
+        → AreMultipliersOver s y multipliers → IsOver (pos s) bound (bound_of y rows)
+        → AllByRecursion (IsShownPercentPromised places d multipliers bound) (priced_rows table multipliers rows) }
 {}

@@ -15,7 +15,7 @@ pub use Rattle.named_equations.proofs.InstanceTests.{Has-instances, indices-pass
 pub use Rattle.named_equations.proofs.PositionsInSets.{AreInSets, are_in_sets}
 pub use Rattle.named_equations.proofs.SameConditions.{annuity_of-same, capital_factor_of-same, emitting_modes-same, operating_factor_of-same, producing_modes-same, producing_technologies-same, recovery_factor_of-same, salvage_fraction_of-same, using_modes-same, using_technologies-same, years_counting-same}
 pub use Rattle.named_equations.proofs.SameParameters.{accumulated_annual_demand-same, annual_emission_limit-same, annual_exogenous_emission-same, availability_factor-same, capacity_factor-same, capacity_to_activity_unit-same, capital_cost-same, emission_activity_ratio-same, emissions_penalty-same, fixed_cost-same, input_activity_ratio-same, model_period_emission_limit-same, model_period_exogenous_emission-same, output_activity_ratio-same, re_min_production_target-same, re_tag_fuel-same, re_tag_technology-same, reserve_margin-same, reserve_margin_tag_fuel-same, reserve_margin_tag_technology-same, residual_capacity-same, specified_annual_demand-same, specified_demand_profile-same, total_annual_max_capacity-same, total_annual_max_capacity_investment-same, total_annual_min_capacity-same, total_annual_min_capacity_investment-same, total_technology_annual_activity_lower_limit-same, total_technology_annual_activity_upper_limit-same, total_technology_model_period_activity_lower_limit-same, total_technology_model_period_activity_upper_limit-same, trade_route-same, variable_cost-same, year_split-same}
-pub use Rattle.named_equations.proofs.SameValues.{Agree, lists-same, map-same, with_values, ◌also◌}
+pub use Rattle.named_equations.proofs.SameValues.{AgreeInAll, agree-but, lists-same, map-same, with_values, ◌also◌}
 pub use Rattle.named_equations.proofs.SortedLists.{Every, Sorted, Sorted-filter}
 pub use Rattle.named_equations.proofs.TermMeaning.{EachFrom, alone-self, at_number}
 pub use Rattle.named_equations.specs.Indices.{at_r, at_re, at_rey, at_rfy, at_rlfy, at_rltfmy, at_rltfy, at_rltmy, at_rlty, at_rly, at_rrrfy, at_rt, at_rtemy, at_rtey, at_rtfy, at_rtmy, at_rty, at_ry, by_rltfmy, by_rtemy}

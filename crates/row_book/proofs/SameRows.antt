@@ -1,5 +1,5 @@
 -- Two data that are the same have the same rows: the same terms at each instance, so that the same rows can be made, or the same one can't.
-use Rattle.row_book.proofs.Common.{◌≡◌, ℕ, ◌+◌, ◌<◌, ◌≤◌, true, ◌&&◌, List, [], ◌∷◌, ◌++◌, ap, ap₂, sym, ◌∙◌, refl, subst, arith, inl, inr, list_all, cases_lt, sum_by-cons, AreSameData, Data, Default, Given, Row, RowName, Var, all_fit, EquationTerms, IsRowOf, equation_formed, right_of, terms_of, written_entries, RowHolds, instances, is_instance, subscripts_of, IsNamedRow, Has, Has-append_left, Has-append_right, Has-instances, are_in_sets, Agree, with_values, at_number, AreRowsOf, CanBeMade, HasTooMany, IsTooWide, StopsAt, entries_in, entry_count, entry_limit, row_fits, terms_at}
+use Rattle.row_book.proofs.Common.{◌≡◌, ℕ, ◌+◌, ◌<◌, ◌≤◌, true, ◌&&◌, List, [], ◌∷◌, ◌++◌, ap, ap₂, sym, ◌∙◌, refl, subst, arith, inl, inr, list_all, cases_lt, sum_by-cons, AreSameData, Data, Default, Given, Row, RowName, Var, all_fit, EquationTerms, IsRowOf, equation_formed, right_of, terms_of, written_entries, RowHolds, instances, is_instance, subscripts_of, IsNamedRow, Has, Has-append_left, Has-append_right, Has-instances, are_in_sets, AgreeInAll, with_values, at_number, AreRowsOf, CanBeMade, HasTooMany, IsTooWide, StopsAt, entries_in, entry_count, entry_limit, row_fits, terms_at}
 use Rattle.std.specs.Prelude.{ℤ, ◌↔◌, length}
 use Rattle.row_core.specs.Statements.{Holds, Statement}
 use Rattle.named_equations.specs.Plans.{says}
@@ -12,7 +12,7 @@ use Rattle.row_book.proofs.SameTerms.{TermsSame}
 
 -- ---- terms
 
-module _ {d : Data} {given : List Given} {defaults : List Default} (same : Agree d given defaults) (places : ℕ) where
+module _ {d : Data} {given : List Given} {defaults : List Default} (same : AgreeInAll d given defaults) (places : ℕ) where
   at_its_number : (name : RowName) → IsInstance d name → TermsSame places d given defaults name.index name.eq
   at_its_number name instance =
       elim (cases_lt name.eq 25) [
@@ -29,7 +29,7 @@ module _ {d : Data} {given : List Given} {defaults : List Default} (same : Agree
       let instance = instance-parts d name is in at_its_number name instance (are_in_sets d (subscripts_of name.eq) name.index instance.within)
 
 pub same-terms : (places : ℕ) (d e : Data) → AreSameData d e → (name : RowName) → is_instance d name ≡ true → terms_at places d name ≡ terms_at places e name
-same-terms places d e same name is = terms-same (agree same) places name is ∙ ap (λ (f : Data). terms_at places f name) (with_sets same)
+same-terms places d e same name is = terms-same (agree same) places name is ∙ ap (λ (f : Data). terms_at places f name) (with_sets d e same.sets same.second)
 
 -- ---- rows
 

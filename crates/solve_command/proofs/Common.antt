@@ -24,7 +24,7 @@ pub use Rattle.proof_files.specs.ProofRecords.{descent_file, optimum_file, refut
 pub use Rattle.result_tables.specs.Prices.{balances, is_balance, named_price, price_step, price_steps, prices}
 pub use Rattle.row_core.specs.Numbers.{is_zero}
 pub use Rattle.row_core.specs.Plans.{or_zero, value_in, valued}
-pub use Rattle.solve_command.specs.ReadBack.{AreFractions, HasFractions, ReadsBack, TellsDescent, TellsOptimum, TellsRefutation, WhereProof}
+pub use Rattle.solve_command.specs.ReadBack.{AreFractions, HasFractions, ReadsBack, TellsDescent, TellsMultipliers, TellsOptimum, TellsPlan, TellsRefutation, TellsShown, WhereProof}
 pub use Rattle.solve_command.specs.Second.{IsToldSecond, TellsExactly, TellsGrid, TellsSecond}
 pub use Rattle.solve_command.specs.Solve.{ComesToEnd, DueBy, DueForEnd, DueForMethod, DueForRows, Finds, IsFound, IsFoundInfeasibleShown, PricesFit, priced, second_end}
 pub use Rattle.solve_command.specs.declared.solve.Shown.{Shown}

@@ -10,3 +10,4 @@ mod SecondEnds
 mod SolveExamples
 pub mod SolvedEnds
 mod StartLaws
+mod WrittenMultipliers

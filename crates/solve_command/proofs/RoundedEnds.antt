@@ -1,9 +1,10 @@
 -- What the rounded method finds of a book of rows is due over the named equations.
-use Rattle.solve_command.proofs.Common.{ℕ, inl, inr, List, value_of, Data, SetLists, Row, Var, Certified, IsBookOf, Status, optimum_file, refutation_file, Wanted, IsFoundBy, HasFractions, ReadsBack, TellsOptimum, TellsRefutation, IsFound, IsFoundInfeasibleShown, are, near, refuted}
+use Rattle.solve_command.proofs.Common.{ℕ, inl, inr, List, value_of, Data, SetLists, Row, Var, Certified, IsBookOf, Status, refutation_file, Wanted, IsFoundBy, HasFractions, ReadsBack, TellsRefutation, IsFound, IsFoundInfeasibleShown, are, near, refuted}
 use Rattle.std.specs.Prelude.{◌≡◌, ◌⊎◌}
 use Rattle.certified_answers.specs.declared.answers.Certified.TheVariants as exact
 use Rattle.solve_command.specs.Rounding.{TellsFound}
-use Rattle.solve_command.proofs.ReadingBack.{where-proof}
+use Rattle.result_tables.specs.declared.attempts.FoundBy.TheVariants.{ByGuesses}
+use Rattle.solve_command.proofs.ReadingBack.{where-proof, where-shown}
 
 module _ (places : ℕ) (d : Data) (rows : List Row) (vars : List Var) (book : IsBookOf places d rows vars) (sets : SetLists) (same : sets ≡ d.sets) (wanted : Wanted) (rounded : ℕ) (status : Status) (text : List ℕ) where
   pub due-from_found : ReadsBack d rows vars → (solution : Certified) → HasFractions solution → IsFoundBy rows vars wanted.gap wanted.pivots solution → TellsFound sets rows vars wanted rounded places solution status text
@@ -21,8 +22,8 @@ module _ (places : ℕ) (d : Data) (rows : List Row) (vars : List Var) (book : I
         prices_fit = told.fits;
         status_is = told.status_is;
         text_is = rw (same, are places d rows vars book) at told.text_is;
-        told = where-proof wanted.show text (optimum_file d.sets plan multipliers) (TellsOptimum d plan multipliers) (λ proof. rw (same, proof) at told.text_is)
-            (reads.optimum plan multipliers fractions.0 fractions.1 found.complete found.named);
+        told = where-shown wanted.show d rows vars plan multipliers (value_of cost) (value_of bound) made rounded places (ByGuesses wanted.begun) text reads fractions.0 fractions.1 found.complete found.named
+            (rw same at told.text_is);
       })
   due-from_found reads (exact.Infeasible multipliers made) fractions found told =
       inr (

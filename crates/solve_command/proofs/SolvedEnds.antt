@@ -1,5 +1,5 @@
 -- What is due for a solution of a book of rows, and for a stop of the method, over the named equations.
-use Rattle.solve_command.proofs.Common.{◌≡◌, ◌==◌, ℕ, Bool, true, false, inl, inr, Some, None, List, refl, sym, ap, ◌∙◌, subst, if◌then◌else◌, is_none, Rational, first_wide, value_of, Data, SetLists, Row, RowName, Var, Place, price_steps, all_variables, HasNoBound, HasNoPlan, HasOptimum, IsPivotDue, IsStopOf, IsWide, MethodEnd, end_seen, elimination_steps, grid_end, method_end, definers, Uncertified, SolveMethod, Exact, Rounded, IsComplete, IsNamed, IsProved, Certified, descent_file, optimum_file, refutation_file, Shown, Report, Summary, Wanted, Status, IsBookOf, uncertified_line, ComesToEnd, DueBy, DueForEnd, DueForMethod, PricesFit, priced, second_end, IsToldSecond, TellsExactly, HasFractions, ReadsBack, TellsDescent, TellsOptimum, TellsRefutation, are, near, optimum, refuted, unbounded}
+use Rattle.solve_command.proofs.Common.{◌≡◌, ◌==◌, ℕ, Bool, true, false, inl, inr, Some, None, List, refl, sym, ap, ◌∙◌, subst, if◌then◌else◌, is_none, Rational, first_wide, value_of, Data, SetLists, Row, RowName, Var, Place, price_steps, all_variables, HasNoBound, HasNoPlan, HasOptimum, IsPivotDue, IsStopOf, IsWide, MethodEnd, end_seen, elimination_steps, grid_end, method_end, definers, Uncertified, SolveMethod, Exact, Rounded, IsComplete, IsNamed, IsProved, Certified, descent_file, refutation_file, Shown, Report, Summary, Wanted, Status, IsBookOf, uncertified_line, ComesToEnd, DueBy, DueForEnd, DueForMethod, PricesFit, priced, second_end, IsToldSecond, TellsExactly, HasFractions, ReadsBack, TellsDescent, TellsRefutation, are, near, optimum, refuted, unbounded}
 use Rattle.command_answers.proofs.BookLists.{end-of-elimination}
 use Rattle.certified_answers.specs.Worth.{plan_cost}
 use Rattle.certified_answers.specs.declared.answers.Certified.TheVariants as found
@@ -8,7 +8,8 @@ use Rattle.certified_answers.specs.declared.answers.NoAnswer.TheVariants as stop
 use Rattle.simplex_core.specs.declared.stops.Stop.TheVariants.{Width}
 use Rattle.solve_command.specs.Shown.{HasPrices}
 use Rattle.command_answers.specs.ToldStops.{TellsStop}
-use Rattle.solve_command.proofs.ReadingBack.{where-proof}
+use Rattle.result_tables.specs.declared.attempts.FoundBy.TheVariants.{ByMethod, OnGrid}
+use Rattle.solve_command.proofs.ReadingBack.{where-proof, where-shown}
 
 -- a number that is formed for a price of what has prices doesn't fit, though all do
 pub prices_come : (show : Shown) (rows : List Row) (multipliers : List (RowName × Rational)) (place : Place) → HasPrices show → first_wide (price_steps rows multipliers) ≡ Some place → PricesFit show rows multipliers → ⊥
@@ -35,8 +36,8 @@ module _ (places : ℕ) (d : Data) (rows : List Row) (vars : List Var) (book : I
         optimum = near places d rows vars book found.plan found.multipliers found.cost found.bound wanted.gap worth.plan worth.bound worth.gap_kept worth.whole worth.named;
         status_is = told.status_is;
         text_is = rw (same, same-vars) at told.text_is;
-        told = where-proof wanted.show text (optimum_file d.sets found.plan found.multipliers) (TellsOptimum d found.plan found.multipliers) (λ proof. rw (same, proof) at told.text_is)
-            (reads.optimum found.plan found.multipliers worth.plan_fractions worth.multiplier_fractions worth.whole worth.named);
+        told = where-shown wanted.show d rows vars found.plan found.multipliers found.cost found.bound found.pivots rounded places OnGrid text reads worth.plan_fractions worth.multiplier_fractions worth.whole worth.named
+            (rw same at told.text_is);
       }))))))
 
   none : second_end rows vars wanted ≡ None → second_end rows (all_variables d) wanted ≡ None
@@ -56,7 +57,7 @@ module _ (places : ℕ) (d : Data) (rows : List Row) (vars : List Var) (book : I
         prices_fit = told.0;
         status_is = told.1;
         text_is = rw (same, same-vars) at told.2;
-        told = where-proof wanted.show text (optimum_file d.sets plan multipliers) (TellsOptimum d plan multipliers) (λ proof. rw (same, proof) at told.2) (reads.optimum plan multipliers fractions.0 fractions.1 whole named);
+        told = where-shown wanted.show d rows vars plan multipliers (value_of cost) (value_of bound) made rounded places ByMethod text reads fractions.0 fractions.1 whole named (rw same at told.2);
       })
   due-from_solution reads (found.Optimal plan multipliers cost bound made) fractions end proved whole named (inr told) =
       elim told.2 [

@@ -32,7 +32,7 @@ use Rattle.command_words.specs.declared.command.SolveMethod.{SolveMethod}
 use Rattle.command_words.specs.declared.command.SolveMethod.TheVariants.{Exact, Rounded}
 use Rattle.command_answers.specs.SolvedEnds.{IsFoundInfeasible, IsInfeasible, IsUnbounded}
 use Rattle.command_answers.specs.SolvedPlans.{IsNearOptimum, IsOptimum}
-use Rattle.solve_command.specs.ReadBack.{TellsDescent, TellsOptimum, TellsRefutation, WhereProof}
+use Rattle.solve_command.specs.ReadBack.{TellsDescent, TellsRefutation, TellsShown, WhereProof}
 use Rattle.solve_command.specs.SolveTexts.{infeasible_shown, solved_shown, unbounded_shown}
 
 -- ---- prices
@@ -72,7 +72,7 @@ pub record IsSolved (places : ℕ) (d : Data) (rows : List Row) (wanted : Wanted
   pub prices_fit : PricesFit wanted.show rows multipliers
   pub status_is : status ≡ Done
   pub text_is : text ≡ solved_shown wanted.show d.sets (all_variables d) plan rows multipliers cost bound made rounded places ByMethod
-  pub told : WhereProof wanted.show (TellsOptimum d plan multipliers text)
+  pub told : TellsShown wanted.show d plan multipliers text
 
 -- no plan meets them
 abbrev pub IsInfeasibleShown : ℕ → Data → List Row → Wanted → ℕ → Status → List ℕ → Type 0
@@ -139,7 +139,7 @@ pub record IsSolvedOnGrid (places : ℕ) (d : Data) (rows : List Row) (wanted : 
   pub optimum : IsNearOptimum places d rows wanted.gap found.plan found.multipliers found.cost found.bound
   pub status_is : status ≡ Done
   pub text_is : text ≡ solved_shown wanted.show d.sets (all_variables d) found.plan rows found.multipliers found.cost found.bound found.pivots rounded places OnGrid
-  pub told : WhereProof wanted.show (TellsOptimum d found.plan found.multipliers text)
+  pub told : TellsShown wanted.show d found.plan found.multipliers text
 
 -- what is due of a linear program by the exact method, and by the second attempt where it stops
 abbrev pub DueForEnd : ℕ → Data → List Row → Wanted → ℕ → Status → List ℕ → Type 0
@@ -167,7 +167,7 @@ pub record IsFound (places : ℕ) (d : Data) (rows : List Row) (wanted : Wanted)
   pub prices_fit : PricesFit wanted.show rows multipliers
   pub status_is : status ≡ Done
   pub text_is : text ≡ solved_shown wanted.show d.sets (all_variables d) plan rows multipliers cost bound made rounded places (ByGuesses wanted.begun)
-  pub told : WhereProof wanted.show (TellsOptimum d plan multipliers text)
+  pub told : TellsShown wanted.show d plan multipliers text
 
 -- ---- what is due
 

@@ -1,4 +1,4 @@
-// What the file of a proof is read as.
+// What the files of a plan, of multipliers and of a proof are read as.
 ghost use Rattle.std.specs.Prelude.{◌≡◌, ℕ};
 ghost use Rattle.model_sets.specs.Data.{Data};
 ghost use Rattle.command_answers.specs.CheckedPlans.{IsBookOf, IsListedBook};
@@ -7,15 +7,17 @@ ghost use Rattle.solve_command.specs.ReadBack.{AreFractions, HasFractions, Reads
 use certified_answers::Certified;
 use model_sets::Sets;
 use model_sets::set_numbers::REGION;
+use plan_files::reading_laws;
 use proof_files::written_proof_laws;
 use row_book::RowBook;
 use row_core::{Multipliers, Plan};
 
-/// What is written to prove an end is read as that, over any data of which the book is.
+/// What is written of a plan, of multipliers or to prove an end is read as that, over any data of which the book is.
 pub fn readback_laws(book: &RowBook, sets: &Sets)
     requires { IsListedBook sets.now book.now.rows book.now.vars }
     ensures { (places : ℕ) (d : Data) → sets.now ≡ d.sets → IsBookOf places d book.now.rows book.now.vars → ReadsBack d book.now.rows book.now.vars }
 {
+    reading_laws();
     written_proof_laws();
     // The sets keep their rules.
     let _count = sets.count(REGION);

@@ -73,7 +73,8 @@ pub fn answer_rows(
     answer_guess(alloc, book, sets, found, places, wanted, rounded)
 }
 
-// The answer for what guesses find, where they find something.
+// The answer for what guesses find, where they find something. They found it before what is to be shown is looked at: the calls that find it
+// aren't given that. So calls that differ in it alone tell of one plan, unless a price of a report doesn't fit.
 fn answer_guess(
     alloc: Global,
     book: &RowBook,
