@@ -60,6 +60,39 @@ pub fn accept_read(
     }
 }
 
+/// What a data file says, and its data with the changes of a file.
+#[derive(Drop)]
+pub struct Whole {
+    /// What the text says, of which the data keep what the equations use.
+    pub blocks: Blocks,
+    pub model: ModelData,
+}
+
+/// The same as `accept_read` answers, with what the text says beside the data.
+pub fn accept_whole(
+    alloc: Global,
+    reader: PieceReader,
+    changes: Option<&[u8]>,
+) -> Result<Result<Whole, Answer>, AllocError>
+    requires { (text : List ℕ) × StandsFor reader text }
+    ensures { (text : List ℕ) → StandsFor reader text → length text ≤ most_bytes → IfOk result (λ verdict. MatchResult verdict
+        (λ whole. (accepted : Accepted (source_of text changes.entry) whole.model.facts) × (whole.model.rounded ≡ accepted.rounded) × Says text (blocks_told whole.blocks))
+        (λ answer. DueWhereNotAccepted (source_of text changes.entry) answer.status answer.text.items)) }
+{
+    let blocks = match end_reading(alloc, reader)? {
+        Ok(blocks) => blocks,
+        Err(answer) => return Ok(Err(answer)),
+    };
+    let model = match accept_blocks(alloc, &blocks)? {
+        Ok(model) => model,
+        Err(answer) => return Ok(Err(answer)),
+    };
+    match accept_changes(alloc, model, changes)? {
+        Ok(model) => Ok(Ok(Whole { blocks, model })),
+        Err(answer) => Ok(Err(answer)),
+    }
+}
+
 // The data of the text that a reader was fed, without changes, or the answer for its first refusal.
 fn accept_file(alloc: Global, reader: PieceReader) -> Result<Result<ModelData, Answer>, AllocError>
     requires { (text : List ℕ) × StandsFor reader text }

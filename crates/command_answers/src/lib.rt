@@ -20,7 +20,7 @@ mod refusal_lines;
 mod status;
 mod stops;
 
-pub use accepting::{accept, accept_read, acceptance_laws};
+pub use accepting::{Whole, accept, accept_read, accept_whole, acceptance_laws};
 pub use amounts::{push_amount, push_count, push_with_number};
 pub use answer::{Answer, refuse_reduced, refuse_start, refuse_words};
 pub use books::{made_book, refuse_book, refuse_large};

@@ -516,6 +516,6 @@ coarse_told : line small_sets (told rule.CoarseRates 0 0 0 1 3 (pos 0) (pos 0)) 
 unfolding small_sets told line members_line members_text for_first first_names more_members digits
 coarse_told = refl
 
-none : lines_text small_sets [] ≡ codes "warnings 0\n"
+none : lines_text small_sets [] [] ≡ codes "warnings 0\n"
 unfolding small_sets last_line digits
 none = refl

@@ -12,6 +12,7 @@ pub mod Questions
 pub mod Reach
 pub mod Shares
 pub mod Speaking
+pub mod StorageUsers
 pub mod Sums
 pub mod Uses
 pub mod Values

@@ -1,10 +1,11 @@
 -- The lines of findings.
-use Rattle.std.specs.Prelude.{ℕ, List, [], ◌++◌, codes, length, nat_eq, if◌then◌else◌}
+use Rattle.std.specs.Prelude.{ℕ, ◌+◌, List, [], ◌++◌, codes, length, nat_eq, if◌then◌else◌}
 use Rattle.std.specs.Fmt.{decimal}
 use Rattle.std.specs.List.{flat_map}
 use Rattle.model_sets.specs.Members.{SetLists}
 use Rattle.model_sets.specs.Names.{year}
 use Rattle.model_sets.specs.Params.{param_word}
+use Rattle.model_sets.specs.declared.set_numbers.TheConstants.{TECHNOLOGY}
 use Rattle.model_sets.specs.declared.param_numbers.TheConstants.{TOTAL_ANNUAL_MAX_CAPACITY, TOTAL_TECHNOLOGY_MODEL_PERIOD_ACTIVITY_UPPER_LIMIT}
 use Rattle.data_warnings.specs.declared.places.Finding.{Finding}
 use Rattle.data_warnings.specs.declared.rules.Rule.{Rule}
@@ -253,6 +254,10 @@ line sets f = codes "warning " ++ said sets f f.rule ++ codes "\n"
 unfoldable pub last_line : ℕ → List ℕ
 last_line n = codes "warnings " ++ decimal n ++ codes "\n"
 
--- the lines of the findings, and the last line
-abbrev pub lines_text : SetLists → List Finding → List ℕ
-lines_text sets found = flat_map (line sets) found ++ last_line (length found)
+-- a technology at this position that charges or discharges a storage
+unfoldable pub storage_line : SetLists → ℕ → List ℕ
+storage_line sets t = codes "warning " ++ name sets TECHNOLOGY t ++ codes " charges or discharges a storage, and the equations have none: what discharges makes energy out of nothing\n"
+
+-- the lines of the findings and of these technologies, and the last line
+abbrev pub lines_text : SetLists → List Finding → (users : List ℕ) → List ℕ
+lines_text sets found users = flat_map (line sets) found ++ flat_map (storage_line sets) users ++ last_line (length found + length users)

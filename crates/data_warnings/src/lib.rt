@@ -16,6 +16,7 @@ mod reach;
 mod rules;
 mod shares;
 mod speaking;
+mod storage_users;
 mod sums;
 mod uses;
 mod values;

@@ -3,7 +3,7 @@
 ghost use Rattle.std.specs.Prelude.{◌≡◌, ◌≤◌, ◌++◌, [], IfOk, OnOk};
 ghost use Rattle.model_sets.specs.Names.{set_count, year};
 ghost use Rattle.model_sets.specs.Params.{IsParam};
-ghost use Rattle.data_warnings.specs.Lines.{above_line, asked_start, asked_text, bare_number, beside_text, both_ways_line, both_ways_text, crossed_line, default_line, default_text, first_names, for_first, gap_line, gap_text, last_line, line, lines_text, loose_line, member_line, members_line, members_text, more_members, more_text, more_word, more_years, names_text, nearest_text, next_name, number_text, of_names, outlier_line, pair_line, pair_text, plain_line, reach_line, reach_text, rounded_line, route_line, route_remark, route_start, said, starved_line, starved_text, subject_line, subject_text, sum_line, unmade_line, unmade_text, years_text};
+ghost use Rattle.data_warnings.specs.Lines.{above_line, asked_start, asked_text, bare_number, beside_text, both_ways_line, both_ways_text, crossed_line, default_line, default_text, first_names, for_first, gap_line, gap_text, last_line, line, lines_text, loose_line, member_line, members_line, members_text, more_members, more_text, more_word, more_years, names_text, nearest_text, next_name, number_text, of_names, outlier_line, pair_line, pair_text, plain_line, reach_line, reach_text, rounded_line, route_line, route_remark, route_start, said, starved_line, starved_text, storage_line, subject_line, subject_text, sum_line, unmade_line, unmade_text, years_text};
 ghost use Rattle.std.specs.Fmt.{decimal};
 ghost use Rattle.std.specs.List.{flat_map};
 
@@ -17,21 +17,24 @@ use itoa::Buffer;
 use model_sets::param_numbers::{
     TOTAL_ANNUAL_MAX_CAPACITY, TOTAL_TECHNOLOGY_MODEL_PERIOD_ACTIVITY_UPPER_LIMIT,
 };
-use model_sets::set_numbers::YEAR;
+use model_sets::set_numbers::{TECHNOLOGY, YEAR};
 use model_sets::{Sets, param_word};
 use std::alloc::{AllocError, Global};
 
-/// The lines of the findings, and the line with their number. It may run out of memory.
+/// The lines of the findings, those of the technologies that charge or discharge storages, and the line with the number of both. It may
+/// run out of memory.
 pub(crate) fn lines_text(
     alloc: Global,
     sets: &Sets,
     found: &[Finding],
+    users: &[u16],
 ) -> Result<Vec<u8>, AllocError>
-    ensures { IfOk result (λ text. text.items ≡ lines_text sets.now found.now) }
+    ensures { IfOk result (λ text. text.items ≡ lines_text sets.now found.now users.now) }
 {
     let mut out = Vec::new(alloc);
     push_lines(&mut out, sets, found)?;
-    push_last_line(&mut out, found.len())?;
+    push_storage_lines(&mut out, sets, users)?;
+    push_last_line(&mut out, found.len() + users.len())?;
     Ok(out)
 }
 
@@ -43,6 +46,28 @@ fn push_lines(out: &mut Vec<u8>, sets: &Sets, found: &[Finding]) -> Result<(), A
         push_line(out, sets, *finding)?;
     }
     Ok(())
+}
+
+// Appends the lines of technologies that charge or discharge storages.
+fn push_storage_lines(out: &mut Vec<u8>, sets: &Sets, users: &[u16]) -> Result<(), AllocError>
+    ensures { OnOk result (out.new.items ≡ out.old.items ++ flat_map (storage_line sets.now) users.now) }
+{
+    for user in users {
+        push_storage_line(out, sets, *user)?;
+    }
+    Ok(())
+}
+
+// Appends the line of one.
+#[tactic(auto, unfolding(crate::specs::Lines::storage_line))]
+fn push_storage_line(out: &mut Vec<u8>, sets: &Sets, user: u16) -> Result<(), AllocError>
+    ensures { OnOk result (out.new.items ≡ out.old.items ++ storage_line sets.now user) }
+{
+    out.extend_from_slice(b"warning ")?;
+    out.extend_from_slice(name_of(sets, TECHNOLOGY, user))?;
+    out.extend_from_slice(
+        b" charges or discharges a storage, and the equations have none: what discharges makes energy out of nothing\n",
+    )
 }
 
 // Appends the last line.

@@ -43,7 +43,7 @@ pub use Rattle.osemosys_run.specs.Due.{AskForEquations, Due, DueForFile, DueForF
 pub use Rattle.osemosys_run.specs.Mps.{DueForEquations}
 pub use Rattle.osemosys_run.specs.ReadToEnd.{HasReadAll, IsReadAtWriteFault, IsReadToEnd, ReadsWhole, SpeaksOfFiles}
 pub use Rattle.osemosys_run.specs.Replies.{CanBeSent, CanBeTold, DueForReply, IsForEquationsOf, IsAsMade, IsForEquations, IsOwn, IsReplyTo, IsTold}
-pub use Rattle.osemosys_run.specs.Requests.{HasOneModel, IsOfOneModel, IsRead, first_marked, marks_for, marks_in}
+pub use Rattle.osemosys_run.specs.Requests.{HasOneModel, IsOverData, IsOfOneModel, IsRead, first_marked, marks_for, marks_in}
 pub use Rattle.osemosys_run.specs.Scenarios.{AcceptsOver, IsKept, IsUnkept, RefusesOver}
 pub use Rattle.osemosys_run.specs.Sending.{Delivers, IsBegun, Sent, sent}
 pub use Rattle.osemosys_run.specs.declared.reply.Reply.{Reply}

@@ -1,7 +1,7 @@
 -- The files of a request: of one data file with others, and of two scenarios.
 use Rattle.std.specs.Prelude.{Bool, true, false, IfOk, Result}
 use Rattle.std.specs.Option.{option_to_list}
-use Rattle.osemosys_run.proofs.Common.{append_assoc, suc, option_map, source_of, DueForCompared, DueOver, bytes_at, changes_at, titled, ◌≡◌, ◌≢◌, Bor, ℕ, List, [], ◌∷◌, ◌++◌, length, map, map-append, refl, ap, arith, Option, Some, None, subst, sym, ◌∙◌, AllByRecursion, CompareShow, PieceState, StandsFor, Source, Status, DueForText, Question, Request, Check, CheckProof, Compare, Curve, Explain, Make, Mps, Page, Reduce, Solve, SolveFrom, Span, Table, Warn, names_in, names_of, AllHold, fed_of, held_of, IsShort, Answer, question_of, Command, MakeShow, Data, DueForQuestion, DueOverData, HasOneModel, IsOfOneModel, IsRead, first_marked, marks_for, marks_in, source2_in, source_in}
+use Rattle.osemosys_run.proofs.Common.{append_assoc, suc, option_map, source_of, DueForCompared, DueOver, bytes_at, changes_at, titled, ◌≡◌, ◌≢◌, Bor, ℕ, List, [], ◌∷◌, ◌++◌, length, map, map-append, refl, ap, arith, Option, Some, None, subst, sym, ◌∙◌, AllByRecursion, CompareShow, PieceState, StandsFor, Source, Status, DueForText, Question, Request, Check, CheckProof, Compare, Curve, Explain, Make, Mps, Page, Reduce, Solve, SolveFrom, Span, Table, Warn, names_in, names_of, AllHold, fed_of, held_of, IsShort, Answer, question_of, Command, MakeShow, Data, DueForQuestion, DueOverData, HasOneModel, IsOfOneModel, IsOverData, IsRead, first_marked, marks_for, marks_in, source2_in, source_in}
 use Rattle.command_words.specs.declared.command.Command.TheVariants as code
 use Rattle.result_pages.specs.Pages.{Title}
 
@@ -94,6 +94,23 @@ has_one_model (code.Page file proof gap places) mps make compare = tt
 has_one_model (code.Warn file) mps make compare = tt
 has_one_model (code.Compare first first_proof second second_proof gap places show) mps make compare = absurd (compare first first_proof second second_proof gap places show refl)
 has_one_model (code.Reduce file places) mps make compare = tt
+
+-- and one that isn't `warn` either is answered by the data alone
+pub over_data : (command : Command) → ((file : Bor (List ℕ)) → command ≢ code.Warn file) → HasOneModel (question_of command) → IsOverData (question_of command)
+over_data (code.Mps file places) warn one = absurd one
+over_data (code.Check file plan multipliers gap places) warn one = tt
+over_data (code.CheckProof file proof gap places) warn one = tt
+over_data (code.Solve file gap pivots places show method) warn one = tt
+over_data (code.SolveFrom file start gap pivots places show) warn one = tt
+over_data (code.Explain file pivots places method) warn one = tt
+over_data (code.Curve file region emission limits gap pivots places method) warn one = tt
+over_data (code.Span file region technology year slack gap pivots places method) warn one = tt
+over_data (code.Make size show) warn one = absurd one
+over_data (code.Table file proof name exact gap places) warn one = tt
+over_data (code.Page file proof gap places) warn one = tt
+over_data (code.Warn file) warn one = absurd (warn file refl)
+over_data (code.Compare first first_proof second second_proof gap places show) warn one = absurd one
+over_data (code.Reduce file places) warn one = tt
 
 -- what is due for the question of a command, by another word for it
 pub as_asked : {E : Type 0} (command named : Command) (changes : Option (List ℕ)) (contents : List (List ℕ)) (rounded : ℕ) (d : Data) (result : Result Answer E) → command ≡ named

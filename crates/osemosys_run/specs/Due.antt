@@ -63,7 +63,7 @@ DueOverData (Table name proof table exact gap places) changes contents rounded d
 DueOverData (Page name proof gap places) changes contents rounded d status text =
     DueForPage (titled name changes) rounded places (λ rows. DueForProofFile places d rows (bytes_at contents 1) gap) (bytes_at contents 1) d status text
 DueOverData (Reduce name places) changes contents rounded d status text = DueForReduced places d status text
-DueOverData (Warn name) changes contents rounded d status text = IsWarned rounded d status text
+DueOverData (Warn name) changes contents rounded d status text = IsWarned (bytes_at contents 0) rounded d status text
 DueOverData (Make size show) changes contents rounded d status text = ⊥
 DueOverData (Compare first first_proof second second_proof gap places show) changes contents rounded d status text = ⊥
 

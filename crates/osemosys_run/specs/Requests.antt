@@ -2,7 +2,7 @@
 use Rattle.std.specs.List.{AllByRecursion}
 use Rattle.std.specs.Option.{option_to_list}
 use Rattle.std.specs.Prelude.{◌≡◌, ℕ, Bool, true, false, List, [], ◌∷◌, ◌++◌, length, map, ⊤}
-use Rattle.command_words.specs.Words.{Question, Request, Check, CheckProof, Compare, Make, Mps, Page, Table, names_in, names_of}
+use Rattle.command_words.specs.Words.{Question, Request, Check, CheckProof, Compare, Make, Mps, Page, Table, Warn, names_in, names_of}
 use Rattle.mathprog_data.specs.Pieces.{PieceState, StandsFor}
 use Rattle.request_files.specs.Marked.{AllHold, fed_of, held_of}
 use Rattle.request_files.specs.Reading.{IsShort}
@@ -38,7 +38,15 @@ HasOneModel (Make size show) = ⊥
 HasOneModel (Compare first first_proof second second_proof gap places show) = ⊥
 HasOneModel question = ⊤
 
--- so it is, and it begins with a check of what another file holds
+-- so it is, and by the data alone: `warn` looks at what else the text says
+abbrev pub IsOverData : Question → Type 0
+IsOverData (Mps file places) = ⊥
+IsOverData (Make size show) = ⊥
+IsOverData (Warn file) = ⊥
+IsOverData (Compare first first_proof second second_proof gap places show) = ⊥
+IsOverData question = ⊤
+
+-- a question is answered over the data of one model, and begins with a check of what another file holds
 abbrev pub BeginsWithCheck : Question → Type 0
 BeginsWithCheck (Check file plan multipliers gap places) = ⊤
 BeginsWithCheck (CheckProof file proof gap places) = ⊤

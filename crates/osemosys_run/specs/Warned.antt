@@ -1,11 +1,14 @@
--- What `warn` says over accepted data, of which so many numbers are rounded: a line for each finding, and their number.
+-- What `warn` says of a data file with accepted data, of which so many numbers are rounded: a line for each finding, and their number.
 use Rattle.std.specs.Prelude.{◌≡◌, ℕ, List}
+use Rattle.mathprog_data.specs.Meaning.{Blocks}
+use Rattle.mathprog_data.specs.Verdicts.{Says}
 use Rattle.model_sets.specs.Data.{Data}
 use Rattle.param_tables.specs.Built.{AreComplete}
 use Rattle.command_answers.specs.declared.status.Status.{Status}
 use Rattle.command_answers.specs.declared.status.Status.TheVariants.{Done}
 use Rattle.data_warnings.specs.Findings.{findings}
 use Rattle.data_warnings.specs.Lines.{lines_text}
+use Rattle.data_warnings.specs.StorageUsers.{storage_users}
 use Rattle.data_warnings.specs.declared.places.Finding.{Finding}
 
 -- what is found in the data

@@ -11,7 +11,7 @@ ghost use Rattle.mathprog_data.specs.Pieces.{StandsFor};
 ghost use Rattle.request_files.specs.Marked.{AllHold};
 ghost use Rattle.osemosys_run.specs.Due.{DueOverData, bytes_at, changes_at, titled};
 ghost use Rattle.osemosys_run.specs.Replies.{IsForEquationsOf, IsReplyTo};
-ghost use Rattle.osemosys_run.specs.Requests.{BeginsWithCheck, HasOneModel, IsRead};
+ghost use Rattle.osemosys_run.specs.Requests.{BeginsWithCheck, HasOneModel, IsOverData, IsRead};
 ghost use Rattle.result_pages.specs.Pages.{title_of};
 
 use crate::compared::{CompareAsked, Pair, answer_pairs, last_reader};
@@ -129,6 +129,27 @@ fn answer_read(
     ensures { (text : List ℕ) → StandsFor reader text → length text ≤ most_bytes → IfOk result (λ answer.
         DueForText (DueOverData (question_of command.entry) (source_of text changes.entry).changes (text ∷ map (λ bytes. bytes.items) others.now)) (source_of text changes.entry) answer.status answer.text.items) }
 {
+    match command {
+        Command::Warn { .. } => answer_warned(alloc, reader, changes),
+        command => answer_data(alloc, command, reader, changes, others, watcher),
+    }
+}
+
+// What a command answers that looks at the data alone, and not at what else the text says.
+fn answer_data(
+    alloc: Global,
+    command: Command<'_>,
+    reader: PieceReader,
+    changes: Option<&[u8]>,
+    others: &[Vec<u8>],
+    watcher: &mut dyn Watcher,
+) -> Result<Answer, AllocError>
+    requires in_range { IsInRange (question_of command) }
+    requires data { IsOverData (question_of command) }
+    requires stands { (text : List ℕ) × StandsFor reader text }
+    ensures { (text : List ℕ) → StandsFor reader text → length text ≤ most_bytes → IfOk result (λ answer.
+        DueForText (DueOverData (question_of command.entry) (source_of text changes.entry).changes (text ∷ map (λ bytes. bytes.items) others.now)) (source_of text changes.entry) answer.status answer.text.items) }
+{
     match accept_read(alloc, reader, changes)? {
         Ok(model) => answer_over(alloc, command, &model, changes, others, watcher),
         Err(answer) => Ok(answer),
@@ -145,7 +166,7 @@ fn answer_over(
     watcher: &mut dyn Watcher,
 ) -> Result<Answer, AllocError>
     requires in_range { IsInRange (question_of command) }
-    requires one { HasOneModel (question_of command) }
+    requires data { IsOverData (question_of command) }
     ensures { (text : List ℕ) → IfOk result (λ answer.
         DueOverData (question_of command.entry) (option_map (λ bytes. bytes.now) changes.entry) (text ∷ map (λ bytes. bytes.items) others.now) model.now.rounded model.now.facts answer.status answer.text.items) }
 {
@@ -224,7 +245,6 @@ fn answer_over(
             watcher.see(Stage::Rows);
             answer_reduce(alloc, model, places)
         }
-        Command::Warn { .. } => answer_warned(alloc, model),
         command => {
             watcher.see(Stage::Checks);
             answer_checked(alloc, command, model, changes, others)

@@ -126,7 +126,7 @@ use std::alloc::{AllocError, Global};
 /// is said of it but that it is written.
 ///
 /// `warn FILE` says what in the data is legal and probably wrong, a line for each finding, and how many there are. A line that ends in
-/// `no plan` says that no plan exists.
+/// `no plan` says that no plan exists. Of what the file says and the equations don't use, it tells the technologies that storages are linked with.
 ///
 /// `make N [--show file|summary]` reads no file. It writes a data file that is made of the number N, from 3 to 122; or how large
 /// its model is, and what `solve` with its default options comes to on it.
@@ -220,7 +220,7 @@ pub fn osemosys<S: Shelf, K: Sink>(
         → IsPromisedDifference written source source2 text }
 
     // Where one of the lines of `warn` ends in `: no plan`, whatever the names of members are, or is of a rule whose lines do, no plan exists.
-    ensures no_plan { (rounded : ℕ) (d : Data) (status : Status) (text : List ℕ) → IsWarned rounded d status text → (f : Finding) → Contains (findings_over rounded d) f
+    ensures no_plan { (file : List ℕ) (rounded : ℕ) (d : Data) (status : Status) (text : List ℕ) → IsWarned file rounded d status text → (f : Finding) → Contains (findings_over rounded d) f
         → (excludes_plans f.rule ≡ true) ⊎ EndsIn no_plan_ending (line d.sets f)
         → (places q : ℕ) (x : Var → ℤ) → Feasible places d q x → ⊥ }
 

@@ -1,19 +1,15 @@
-use Rattle.osemosys_run.proofs.Common.{◌≡◌, ◌∷◌, ℕ, inl, inr, map, subst, IfOk-weaker, MatchResult-at_err, MatchResult-at_ok, Accepted, source_of, question_of, DueOverData}
+-- `warn` looks at what the text says, and the others at the data alone.
+use Rattle.osemosys_run.proofs.Common.{◌∷◌, List, ℕ, map, ap, sym, subst, IfOk, IfOk-weaker, DueForText, DueOverData, Question, question_of, source_of}
+use Rattle.osemosys_run.proofs.RequestLaws.{over_data}
 use Rattle.osemosys_run.proofs.answering.answer_read.Goals as goal
 
-pub returns-in-Ok : goal.returns-in-Ok
-returns-in-Ok g c = λ text stands short.
-    let d = c.in-Ok.model.facts in
-    let found : (accepted : Accepted (source_of text c.args.changes) d) × (c.in-Ok.model.rounded ≡ accepted.rounded) =
-    MatchResult-at_ok _ _ c.in-Ok.model c.in-Ok.is (c.in_ok-model.ensures text stands short) in
-    IfOk-weaker c.answer_over.result _ _
-    (λ answer due.
-    inr (
-      d,
-      found.0,
-      subst (λ (rounded : ℕ). DueOverData (question_of c.args.command) (source_of text c.args.changes).changes (text ∷ map (λ bytes. bytes.items) c.args.others.now) rounded d answer.status answer.text.items) found.1 due,
-    ))
-    (c.answer_over.ensures text)
+pub answer_data-requires : goal.answer_data-requires
+answer_data-requires g c = record { in_range = c.requires.in_range; data = over_data c.args.command c.in_default.not-Warn c.requires.one; stands = c.requires.stands }
 
-pub returns-in-Err : goal.returns-in-Err
-returns-in-Err g c = λ text stands short. inl (MatchResult-at_err _ _ c.in-Err.answer c.in-Err.is (c.in_ok-model.ensures text stands short))
+pub returns-in-Warn : goal.returns-in-Warn
+returns-in-Warn g c = λ text stands short.
+    let source = source_of text c.args.changes in
+    IfOk-weaker c.answer_warned.result _ _
+    (λ answer due.
+    subst (λ (question : Question). DueForText (DueOverData question source.changes (text ∷ map (λ bytes. bytes.items) c.args.others.now)) source answer.status answer.text.items) (sym (ap question_of c.in-Warn.is)) due)
+    (c.answer_warned.ensures text stands short)

@@ -3,7 +3,7 @@ use Rattle.param_tables.specs.Built.{Built}
 use Rattle.osemosys_run.proofs.warned.warned_laws.Goals as goal
 
 pub returns : goal.returns
-returns c = λ rounded d status text warned f found told places q x plan.
+returns c = λ file rounded d status text warned f found told places q x plan.
     let built : Built = record { facts = d; rounded = rounded } in
     elim told [
       | inl excludes ↦ c.no_plan_laws.ensures.excluded built f found excludes places q x plan
