@@ -4,7 +4,7 @@ unfoldable pub use Rattle.data_warnings.specs.Decimals.{decimal_text, part_digit
 pub use Rattle.data_warnings.specs.Findings.{findings, found, found_at, found_in, found_of_one, found_of_two, last_members, place_at, rules_in_order}
 pub use Rattle.data_warnings.specs.Frames.{frame_of}
 pub use Rattle.data_warnings.specs.Lines.{gap_text, lines_text, pair_text, route_start, said, starved_text}
-unfoldable pub use Rattle.data_warnings.specs.Lines.{above_line, asked_start, asked_text, bare_number, beside_text, both_ways_line, both_ways_text, crossed_line, default_line, default_text, first_names, for_first, gap_line, last_line, line, loose_line, member_line, members_line, members_text, more_members, more_years, names_text, nearest_text, number_text, of_names, outlier_line, pair_line, plain_line, rounded_line, route_line, route_remark, starved_line, storage_line, subject_line, subject_text, sum_line, unmade_line, unmade_text, years_text}
+unfoldable pub use Rattle.data_warnings.specs.Lines.{above_line, asked_start, asked_text, bare_number, beside_text, both_ways_line, both_ways_text, crossed_line, default_line, default_text, first_names, for_first, gap_line, last_line, line, loose_line, member_line, members_line, members_text, more_members, more_years, names_text, nearest_text, number_text, of_names, outlier_line, pair_line, plain_line, rounded_line, route_line, route_remark, starved_line, storage_line, storage_text, subject_line, subject_text, sum_line, unmade_line, unmade_text, years_text}
 pub use Rattle.data_warnings.specs.NoPlan.{EndsIn, excludes_plans, no_plan_ending}
 pub use Rattle.data_warnings.specs.Questions.{is_so, is_so_somewhere, is_within, over}
 pub use Rattle.data_warnings.specs.Speaking.{speaks}

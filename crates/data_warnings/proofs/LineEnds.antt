@@ -1,5 +1,5 @@
 -- How lines of findings end: those after which plans may exist don't end in `: no plan`.
-use Rattle.std.proofs.Common.{◌≡◌, ℕ, ℤ, ◌+◌, ◌-◌, ◌*◌, ◌<◌, ◌≤◌, Bool, true, false, ◌&&◌, List, [], ◌∷◌, ◌++◌, length, nat_eq, get_or, fold, reverse, refl, sym, ap, ◌∙◌, subst, inl, inr, ◌⊎◌, if◌then◌else◌, arith, rules}
+use Rattle.std.proofs.Common.{◌≡◌, ℕ, ℤ, ◌+◌, ◌-◌, ◌*◌, Bool, true, false, ◌&&◌, List, [], ◌∷◌, ◌++◌, length, nat_eq, get_or, fold, reverse, refl, sym, ap, ◌∙◌, subst, inl, inr, ◌⊎◌, if◌then◌else◌, arith, rules}
 use Rattle.data_warnings.proofs.Common.{codes, decimal, list_all, AreSets, SetLists, members, year, Finding, Place, Rule, YearSplitSum, YearGap, DiscountRate, UnprofiledDemand, ProfileSum, UnmadeDemand, StarvedTechnology, Disabled, Crossed, CrossedPeriod, Unreachable, ShortLives, CoarseRates, LargeFactor, LargeAvailability, LargeTarget, SmallMargin, NegativeCost, Outlier, OneWayRoute, EqualRoute, UnequalRoute, ZeroLimits, ZeroEmissions, HighLimits, IdleLimit, UnusedFuel, IdleTechnology, Rounded, decimal_text, frame_of, above_line, both_ways_line, both_ways_text, default_line, default_text, for_first, gap_line, gap_text, line, loose_line, member_line, members_line, members_text, more_members, more_years, names_text, nearest_text, number_text, outlier_line, pair_line, pair_text, plain_line, rounded_line, route_line, route_remark, route_start, said, starved_line, starved_text, subject_line, subject_text, sum_line, years_text, EndsIn, excludes_plans, no_plan_ending, name}
 use Rattle.std.specs.Char.{is_ascii_digit}
 use Rattle.std.proofs.lemmas.Bool.{cases_lt, eqb-true}

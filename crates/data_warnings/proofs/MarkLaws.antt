@@ -1,5 +1,5 @@
 -- Positions that are marked, one value after another.
-use Rattle.data_warnings.proofs.Common.{◌≡◌, ◌<◌, ◌+◌, ◌||◌, pos, ◌∷◌, ◌∙◌, [], ℕ, Bool, true, false, List, Option, None, Some, length, take, ap, refl, sym, if◌then◌else◌, list_any}
+use Rattle.data_warnings.proofs.Common.{◌≡◌, ◌<◌, ◌+◌, ◌||◌, pos, ◌∷◌, ◌∙◌, [], ℕ, Bool, true, false, List, Option, Some, length, take, ap, refl, sym, if◌then◌else◌, list_any}
 use Rattle.std.proofs.Common.{BTreeMap}
 use Rattle.std.specs.BTreeMap.{get, is_at}
 use Rattle.std.specs.Map.{lookup}

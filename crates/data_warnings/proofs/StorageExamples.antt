@@ -1,6 +1,6 @@
 -- Technologies that charge or discharge a storage, and what nearly does.
-use Rattle.data_warnings.proofs.Common.{◌≡◌, ℕ, ℤ, ◌++◌, ◌∷◌, [], List, pos, refl, codes, digits, last_line, lines_text, storage_line, None, SetLists}
-use Rattle.mathprog_data.specs.Meaning.{Blocks, GivenValue, ParamBlock}
+use Rattle.data_warnings.proofs.Common.{◌≡◌, ℕ, ℤ, ◌∷◌, [], List, pos, refl, codes, digits, last_line, lines_text, storage_line, storage_text, None, SetLists}
+use Rattle.mathprog_data.specs.Meaning.{Blocks, GivenValue}
 use Rattle.model_sets.specs.declared.param_numbers.TheConstants.{OPERATIONAL_LIFE_STORAGE, TECHNOLOGY_FROM_STORAGE, TECHNOLOGY_TO_STORAGE}
 use Rattle.data_warnings.specs.StorageUsers.{storage_users}
 
@@ -43,5 +43,5 @@ life = refl
 -- they are counted with the findings
 text : lines_text sets [] (2 ∷ [])
     ≡ codes "warning PUMP charges or discharges a storage, and the equations have none: what discharges makes energy out of nothing\nwarnings 1\n"
-unfolding sets storage_line last_line digits
+unfolding sets storage_line storage_text last_line digits
 text = refl

@@ -3,9 +3,8 @@ use Rattle.std.specs.Prelude.{ℕ, ◌+◌, List, [], ◌++◌, codes, length, n
 use Rattle.std.specs.Fmt.{decimal}
 use Rattle.std.specs.List.{flat_map}
 use Rattle.model_sets.specs.Members.{SetLists}
-use Rattle.model_sets.specs.Names.{year}
+use Rattle.model_sets.specs.Names.{technology, year}
 use Rattle.model_sets.specs.Params.{param_word}
-use Rattle.model_sets.specs.declared.set_numbers.TheConstants.{TECHNOLOGY}
 use Rattle.model_sets.specs.declared.param_numbers.TheConstants.{TOTAL_ANNUAL_MAX_CAPACITY, TOTAL_TECHNOLOGY_MODEL_PERIOD_ACTIVITY_UPPER_LIMIT}
 use Rattle.data_warnings.specs.declared.places.Finding.{Finding}
 use Rattle.data_warnings.specs.declared.rules.Rule.{Rule}
@@ -254,9 +253,13 @@ line sets f = codes "warning " ++ said sets f f.rule ++ codes "\n"
 unfoldable pub last_line : ℕ → List ℕ
 last_line n = codes "warnings " ++ decimal n ++ codes "\n"
 
--- a technology at this position that charges or discharges a storage
+-- what is said of a technology that charges or discharges a storage
+unfoldable pub storage_text : List ℕ
+storage_text = codes " charges or discharges a storage, and the equations have none: what discharges makes energy out of nothing"
+
+-- the line of such a technology at this position
 unfoldable pub storage_line : SetLists → ℕ → List ℕ
-storage_line sets t = codes "warning " ++ name sets TECHNOLOGY t ++ codes " charges or discharges a storage, and the equations have none: what discharges makes energy out of nothing\n"
+storage_line sets t = codes "warning " ++ name sets technology t ++ storage_text ++ codes "\n"
 
 -- the lines of the findings and of these technologies, and the last line
 abbrev pub lines_text : SetLists → List Finding → (users : List ℕ) → List ℕ

@@ -1,5 +1,5 @@
 -- Technologies that charge or discharge a storage. The equations have no storages, so the data don't keep what links the two; the blocks that a text says do.
-use Rattle.std.specs.Prelude.{ℕ, ℤ, Bool, false, ◌&&◌, ◌||◌, List, [], Option, None, Some, filter, length, nat_eq, nat_lt, slice_index_or}
+use Rattle.std.specs.Prelude.{ℕ, Bool, false, ◌&&◌, ◌||◌, List, [], Option, None, Some, filter, length, nat_eq, nat_lt, slice_index_or}
 use Rattle.std.specs.List.{list_any, range_with_len}
 use Rattle.mathprog_data.specs.Meaning.{Blocks, GivenValue, ParamBlock}
 use Rattle.model_sets.specs.declared.param_numbers.TheConstants.{TECHNOLOGY_FROM_STORAGE, TECHNOLOGY_TO_STORAGE}

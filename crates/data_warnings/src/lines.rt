@@ -3,7 +3,7 @@
 ghost use Rattle.std.specs.Prelude.{◌≡◌, ◌≤◌, ◌++◌, [], IfOk, OnOk};
 ghost use Rattle.model_sets.specs.Names.{set_count, year};
 ghost use Rattle.model_sets.specs.Params.{IsParam};
-ghost use Rattle.data_warnings.specs.Lines.{above_line, asked_start, asked_text, bare_number, beside_text, both_ways_line, both_ways_text, crossed_line, default_line, default_text, first_names, for_first, gap_line, gap_text, last_line, line, lines_text, loose_line, member_line, members_line, members_text, more_members, more_text, more_word, more_years, names_text, nearest_text, next_name, number_text, of_names, outlier_line, pair_line, pair_text, plain_line, reach_line, reach_text, rounded_line, route_line, route_remark, route_start, said, starved_line, starved_text, storage_line, subject_line, subject_text, sum_line, unmade_line, unmade_text, years_text};
+ghost use Rattle.data_warnings.specs.Lines.{above_line, asked_start, asked_text, bare_number, beside_text, both_ways_line, both_ways_text, crossed_line, default_line, default_text, first_names, for_first, gap_line, gap_text, last_line, line, lines_text, loose_line, member_line, members_line, members_text, more_members, more_text, more_word, more_years, names_text, nearest_text, next_name, number_text, of_names, outlier_line, pair_line, pair_text, plain_line, reach_line, reach_text, rounded_line, route_line, route_remark, route_start, said, starved_line, starved_text, storage_line, storage_text, subject_line, subject_text, sum_line, unmade_line, unmade_text, years_text};
 ghost use Rattle.std.specs.Fmt.{decimal};
 ghost use Rattle.std.specs.List.{flat_map};
 
@@ -65,8 +65,17 @@ fn push_storage_line(out: &mut Vec<u8>, sets: &Sets, user: u16) -> Result<(), Al
 {
     out.extend_from_slice(b"warning ")?;
     out.extend_from_slice(name_of(sets, TECHNOLOGY, user))?;
+    push_storage_text(out)?;
+    out.extend_from_slice(b"\n")
+}
+
+// Appends what is said of it.
+#[tactic(auto, unfolding(crate::specs::Lines::storage_text))]
+fn push_storage_text(out: &mut Vec<u8>) -> Result<(), AllocError>
+    ensures { OnOk result (out.new.items ≡ out.old.items ++ storage_text) }
+{
     out.extend_from_slice(
-        b" charges or discharges a storage, and the equations have none: what discharges makes energy out of nothing\n",
+        b" charges or discharges a storage, and the equations have none: what discharges makes energy out of nothing",
     )
 }
 

@@ -1,5 +1,5 @@
 -- Value by value.
-use Rattle.data_warnings.proofs.Common.{◌≡◌, ◌<◌, ◌+◌, ◌||◌, ℕ, Bool, Option, Some, true, false, None, length, take, nat_eq, if◌then◌else◌, ap, sym, subst, ◌∙◌, arith, list_any}
+use Rattle.data_warnings.proofs.Common.{◌≡◌, ◌<◌, ◌+◌, ◌||◌, ℕ, Bool, Option, Some, true, false, length, take, nat_eq, if◌then◌else◌, ap, sym, subst, ◌∙◌, list_any}
 use Rattle.std.specs.BTreeMap.{get}
 use Rattle.std.specs.Option.{is_some}
 use Rattle.std.specs.Ordering.{nat_cmp}

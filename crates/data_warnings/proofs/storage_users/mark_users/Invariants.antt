@@ -1,5 +1,6 @@
 -- The technologies that the statements so far name.
-use Rattle.data_warnings.proofs.Common.{◌≡◌, ◌||◌, ℕ, map, take, list_any}
+use Rattle.std.specs.Prelude.{map}
+use Rattle.data_warnings.proofs.Common.{◌≡◌, ◌||◌, ℕ, take, list_any}
 use Rattle.std.specs.BTreeMap.{get}
 use Rattle.std.specs.Option.{is_some}
 use Rattle.std.specs.Ordering.{nat_cmp}

@@ -1,5 +1,6 @@
 -- Technology by technology.
-use Rattle.data_warnings.proofs.Common.{◌≡◌, ◌||◌, ℕ, Bool, List, ap, map, sym, ◌∙◌, list_any}
+use Rattle.data_warnings.proofs.Common.{◌≡◌, ◌||◌, ℕ, Bool, List, ap, sym, ◌∙◌, list_any}
+use Rattle.std.specs.Prelude.{map}
 use Rattle.mathprog_data.specs.BlocksView.{blocks_told, param_told}
 use Rattle.mathprog_data.specs.declared.blocks.ParamBlock.{ParamBlock}
 use Rattle.data_warnings.specs.StorageUsers.{links_in, uses_storages}
