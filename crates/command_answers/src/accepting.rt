@@ -60,7 +60,7 @@ pub fn accept_read(
     }
 }
 
-/// What a data file says, and its data with the changes of a file.
+/// What a data file says, and its data.
 #[derive(Drop)]
 pub struct Whole {
     /// What the text says, of which the data keep what the equations use.
@@ -79,16 +79,8 @@ pub fn accept_whole(
         (λ whole. (accepted : Accepted (source_of text changes.entry) whole.model.facts) × (whole.model.rounded ≡ accepted.rounded) × Says text (blocks_told whole.blocks))
         (λ answer. DueWhereNotAccepted (source_of text changes.entry) answer.status answer.text.items)) }
 {
-    let blocks = match end_reading(alloc, reader)? {
-        Ok(blocks) => blocks,
-        Err(answer) => return Ok(Err(answer)),
-    };
-    let model = match accept_blocks(alloc, &blocks)? {
-        Ok(model) => model,
-        Err(answer) => return Ok(Err(answer)),
-    };
-    match accept_changes(alloc, model, changes)? {
-        Ok(model) => Ok(Ok(Whole { blocks, model })),
+    match whole_file(alloc, reader)? {
+        Ok(whole) => change_whole(alloc, whole, changes),
         Err(answer) => Ok(Err(answer)),
     }
 }
@@ -100,8 +92,52 @@ fn accept_file(alloc: Global, reader: PieceReader) -> Result<Result<ModelData, A
         (λ model. (says : SaysData text) × (model ≡ built_of says.blocks))
         (λ answer. RefusesFile text answer.status answer.text.items)) }
 {
+    match whole_file(alloc, reader)? {
+        Ok(whole) => Ok(Ok(whole.model)),
+        Err(answer) => Ok(Err(answer)),
+    }
+}
+
+// What the text says and its data, without changes, or the answer for its first refusal.
+fn whole_file(alloc: Global, reader: PieceReader) -> Result<Result<Whole, Answer>, AllocError>
+    requires { (text : List ℕ) × StandsFor reader text }
+    ensures { (text : List ℕ) → StandsFor reader text → length text ≤ most_bytes → IfOk result (λ verdict. MatchResult verdict
+        (λ whole. (says : SaysData text) × (whole.model ≡ built_of says.blocks) × (says.blocks ≡ blocks_told whole.blocks))
+        (λ answer. RefusesFile text answer.status answer.text.items)) }
+{
     match end_reading(alloc, reader)? {
-        Ok(blocks) => accept_blocks(alloc, &blocks),
+        Ok(blocks) => whole_of(alloc, blocks),
+        Err(answer) => Ok(Err(answer)),
+    }
+}
+
+// Blocks with their data, or the answer for their first refusal.
+fn whole_of(alloc: Global, blocks: Blocks) -> Result<Result<Whole, Answer>, AllocError>
+    requires { AreWellFormed (blocks_told blocks) }
+    ensures { IfOk result (λ verdict. MatchResult verdict
+        (λ whole. (first_set_refusal (blocks_told blocks.entry) ≡ None) × (first_refusal (blocks_told blocks.entry) ≡ None)
+        × (whole.model ≡ built_of (blocks_told blocks.entry)) × (blocks_told blocks.entry ≡ blocks_told whole.blocks))
+        (λ answer. RefusesBlocks (blocks_told blocks.entry) answer.status answer.text.items)) }
+{
+    match accept_blocks(alloc, &blocks)? {
+        Ok(model) => Ok(Ok(Whole { blocks, model })),
+        Err(answer) => Ok(Err(answer)),
+    }
+}
+
+// The same blocks with data that the changes of a file have changed, where there is one, or the answer for the first that is refused.
+fn change_whole(
+    alloc: Global,
+    whole: Whole,
+    changes: Option<&[u8]>,
+) -> Result<Result<Whole, Answer>, AllocError>
+    ensures { IfOk result (λ verdict. MatchResult verdict
+        (λ changed. (changed_by (option_map (λ text. text.now) changes.entry) whole.entry.model ≡ Ok changed.model) × (changed.blocks ≡ whole.entry.blocks))
+        (λ answer. RefusesTold (changed_by (option_map (λ text. text.now) changes.entry) whole.entry.model) whole.entry.model.facts.sets answer.status answer.text.items)) }
+{
+    let Whole { blocks, model } = whole;
+    match accept_changes(alloc, model, changes)? {
+        Ok(model) => Ok(Ok(Whole { blocks, model })),
         Err(answer) => Ok(Err(answer)),
     }
 }
