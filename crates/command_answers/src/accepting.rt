@@ -115,9 +115,9 @@ fn whole_file(alloc: Global, reader: PieceReader) -> Result<Result<Whole, Answer
 fn whole_of(alloc: Global, blocks: Blocks) -> Result<Result<Whole, Answer>, AllocError>
     requires { AreWellFormed (blocks_told blocks) }
     ensures { IfOk result (λ verdict. MatchResult verdict
-        (λ whole. (first_set_refusal (blocks_told blocks.entry) ≡ None) × (first_refusal (blocks_told blocks.entry) ≡ None)
-        × (whole.model ≡ built_of (blocks_told blocks.entry)) × (blocks_told blocks.entry ≡ blocks_told whole.blocks))
-        (λ answer. RefusesBlocks (blocks_told blocks.entry) answer.status answer.text.items)) }
+        (λ whole. (first_set_refusal (blocks_told blocks) ≡ None) × (first_refusal (blocks_told blocks) ≡ None)
+        × (whole.model ≡ built_of (blocks_told blocks)) × (blocks_told blocks ≡ blocks_told whole.blocks))
+        (λ answer. RefusesBlocks (blocks_told blocks) answer.status answer.text.items)) }
 {
     match accept_blocks(alloc, &blocks)? {
         Ok(model) => Ok(Ok(Whole { blocks, model })),
@@ -132,8 +132,8 @@ fn change_whole(
     changes: Option<&[u8]>,
 ) -> Result<Result<Whole, Answer>, AllocError>
     ensures { IfOk result (λ verdict. MatchResult verdict
-        (λ changed. (changed_by (option_map (λ text. text.now) changes.entry) whole.entry.model ≡ Ok changed.model) × (changed.blocks ≡ whole.entry.blocks))
-        (λ answer. RefusesTold (changed_by (option_map (λ text. text.now) changes.entry) whole.entry.model) whole.entry.model.facts.sets answer.status answer.text.items)) }
+        (λ changed. (changed_by (option_map (λ text. text.now) changes.entry) whole.model ≡ Ok changed.model) × (changed.blocks ≡ whole.blocks))
+        (λ answer. RefusesTold (changed_by (option_map (λ text. text.now) changes.entry) whole.model) whole.model.facts.sets answer.status answer.text.items)) }
 {
     let Whole { blocks, model } = whole;
     match accept_changes(alloc, model, changes)? {
