@@ -35,6 +35,7 @@ MISTAKES = [
     ("CapitalCost.csv", "2020,5\n", "2020,1e99999999999999999999\n", "data/CapitalCost.csv:2: 1e99999999999999999999 is above 10^15"),
     ("CapitalCost.csv", "2020,5\n", '2020,"5\n', "data/CapitalCost.csv:2: it is no CSV"),
     ("CapitalCost.csv", "R,T,2020,5\n", "R;T;2020;5\n", "data/CapitalCost.csv:2: it has 1 fields, and the first line has 4"),
+    ("CapitalCost.csv", "YEAR,VALUE", "2020,2021", "data/CapitalCost.csv:1: the column '2021' is none of CapitalCost, no year of YEAR"),
     ("TradeRoute.csv", "REGION,_REGION,", "REGION,", "data/TradeRoute.csv:1: the column REGION of the second region (_REGION) of TradeRoute is missing"),
     ("TECHNOLOGY.csv", "T\n", "T\nT\n", "data/TECHNOLOGY.csv:3: T is a member since line 2"),
     ("TECHNOLOGY.csv", "VALUE", "NAME", "data/TECHNOLOGY.csv:1: the column VALUE is missing; the columns are NAME"),
@@ -119,6 +120,27 @@ def try_file(path):
             wrong(f"{path}, {way}: the equations aren't the same")
 
 
+def try_notes():
+    """A folder with blank columns and lines, as spreadsheets leave them, and without a file: what is said, and that all else is as before."""
+    before = Data(f"{TOP}/examples/base.dat")
+    write_folder(before, f"{WORK}/notes")
+    os.remove(f"{WORK}/notes/ReserveMargin.csv")
+    with open(f"{WORK}/notes/CapitalCost.csv", "w", encoding="utf-8") as file:
+        file.write("\ufeffREGION,TECHNOLOGY,YEAR,VALUE,,\r\n,,,,,\r\n R ,T,2020,5,,\r\n")
+    ran = data_file("notes", "notes.dat")
+    said = [line.partition(": ")[2] for line in ran.stderr.splitlines()]
+    wanted = [
+        "there is no file of ReserveMargin, so the defaults hold",
+        "DepreciationMethod is 1 where the folder has no value, as by otoole's own configuration",
+        "OperationalLife is 1 where the folder has no value, as by otoole's own configuration",
+        "DiscountRateIdv has no value, so it isn't written, and no investment is spread over its life",
+    ]
+    if ran.returncode or said != wanted:
+        wrong(f"notes: status {ran.returncode}, {ran.stderr!r}")
+    elif list(differences(before, Data(f"{WORK}/notes.dat"))):
+        wrong("notes: not the same data")
+
+
 def try_mistakes():
     for file, old, new, line in MISTAKES:
         shutil.rmtree(f"{WORK}/data", ignore_errors=True)
@@ -145,6 +167,7 @@ def try_mistakes():
 def main():
     for file in FILES:
         try_file(file)
+    try_notes()
     try_mistakes()
     counts = f"the equations of {COMPARED.count('osemosys')} compared by the program, of {COMPARED.count('glpsol')} by glpsol"
     print(f"{len(FILES)} files, {counts}; {len(MISTAKES)} mistakes; {len(WRONG)} wrong")

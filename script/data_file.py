@@ -112,7 +112,7 @@ def stop_at_faults():
 
 
 def records_of(path):
-    """The records of a CSV file with the lines that they end on, blank ones left out."""
+    """The records of a CSV file with the lines that they end on; without blank ones, and without blank columns after the last of the header."""
     try:
         with open(path, encoding="utf-8-sig", newline="") as file:
             text = file.read()
@@ -126,6 +126,8 @@ def records_of(path):
     try:
         for fields in reader:
             fields = [it.strip() for it in fields]
+            while fields and not fields[-1] and (not found or len(fields) > len(found[0][1])):
+                fields.pop()
             if any(fields):
                 found.append((reader.line_num, fields))
     except csv.Error as error:
@@ -195,10 +197,9 @@ def columns_of(name, place, header, sets):
     if not values:
         fault(place, f"the column VALUE of {name} is missing; the columns are {', '.join(header)}")
         return None
-    others = [it for at, it in left.items() if at not in values]
-    if others or len(set(values.values())) < len(values):
-        twice = [header[at] for at in values] if not others else others
-        fault(place, f"the column '{twice[0]}' is none of {name}, {'or no year of YEAR' if is_wide else 'or stands twice'}")
+    others = [it for at, it in left.items() if at not in values or header.index(it) != at]
+    if others:
+        fault(place, f"the column '{others[0]}' is none of {name}, {'no year of YEAR, ' if is_wide else ''}or stands twice")
         return None
     return found, values
 
@@ -298,6 +299,9 @@ def text_of(folder, given):
         if not sets[name] and not faults:
             fault(folder, f"{name}.csv has no member" if name in files else f"there is no {name}.csv")
     stop_at_faults()
+    missing = [name for name in PARAMETERS if name not in files and name != "DiscountRateIdv"]
+    if missing:
+        notes.append(f"there is no file of {', '.join(missing)}, so the defaults hold")
     parts = ["data;\n"] + [f"set {name} :={''.join(' ' + symbol(it) for it in sets[name])} ;\n" for name in SETS]
     for name, (_, usual) in PARAMETERS.items():
         values = read_parameter(name, files[name], sets) if name in files else {}
