@@ -30,7 +30,7 @@ def lacks(script):
 
 
 def main():
-    for name in ("osemosys", "examples", "bench", "verify", "docs"):
+    for name in ("osemosys", "script", "examples", "bench", "verify", "docs"):
         os.symlink(f"{TOP}/{name}", f"{WORK}/{name}")
     found = list(blocks())
     heading, run, wrong, needed = "", 0, 0, ""
