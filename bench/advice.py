@@ -29,6 +29,7 @@ FILES = [
     ("a path without quotes", "set YEAR", "param ResultsPath := ./res ;\nset YEAR", "BadByte", "put a path between quotes"),
     ("a letter with an accent", "set FUEL := F", "set FUEL := F \u00e9", "BadByte", "spelled without them"),
     ("a model section", "set YEAR", "param X{r in REGION};\nset YEAR", "UnknownName|BadByte", "names are those of the tables|data section alone"),
+    ("an equals sign alone", "set FUEL := F", "set FUEL = F", "BadByte", "write :="),
     ("a model's sense", "set YEAR", "set YEAR >= 0;\nset YEAR", "BadByte", "data section alone"),
     ("no capacity factor", "param CapacityFactor default 1", "param CapacityFactor", "NoValue", "default 1"),
     ("no availability", "param AvailabilityFactor default 1", "param AvailabilityFactor", "NoValue", "default 1"),
