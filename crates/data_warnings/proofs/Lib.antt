@@ -1,6 +1,7 @@
 mod Common
 mod LineEnds
 mod Examples
+mod LineExamples
 pub mod Billionths
 pub mod CrossedLimits
 pub mod DigitLaws
