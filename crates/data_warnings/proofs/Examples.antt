@@ -12,7 +12,7 @@ use Rattle.data_warnings.specs.declared.rules.Pair.TheVariants as pair
 use Rattle.data_warnings.specs.declared.rules.Rule.TheVariants as rule
 use Rattle.data_warnings.specs.declared.rules.Series.TheVariants as series
 
-small_sets : SetLists
+unfoldable pub small_sets : SetLists
 small_sets =
     (codes "R" ∷ [])
     ∷ (codes "T" ∷ codes "U" ∷ [])
@@ -40,7 +40,7 @@ small : List Given → List Default → Built
 small given defaults = record { facts = record { sets = small_sets; given = given; defaults = defaults; second = false }; rounded = 0 }
 
 -- a finding
-told : Rule → ℕ → ℕ → ℕ → ℕ → ℕ → ℤ → ℤ → Finding
+unfoldable pub told : Rule → ℕ → ℕ → ℕ → ℕ → ℕ → ℤ → ℤ → Finding
 told which i j k l more first second = record { rule = which; place = place_at i j k l; more = more; number = first; other = second }
 
 rt : List ℕ → List ℕ → List (List ℕ)
@@ -98,6 +98,23 @@ loose = refl
 held : found (small (at param.FIXED_COST (rt (codes "U") (codes "2023")) (negsuc 0) ∷ []) (by_default param.TOTAL_ANNUAL_MAX_CAPACITY (negsuc 999999999) ∷ by_default param.TOTAL_ANNUAL_MAX_CAPACITY_INVESTMENT (pos 0) ∷ by_default param.TOTAL_TECHNOLOGY_ANNUAL_ACTIVITY_UPPER_LIMIT (negsuc 999999999) ∷ [])) (rule.NegativeCost cost.Fixed) ≡ []
 unfolding small small_sets at by_default told rt
 held = refl
+
+-- no limit of a year holds anything
+unlimited_years : List Default
+unlimited_years = by_default param.TOTAL_ANNUAL_MAX_CAPACITY (negsuc 999999999) ∷ by_default param.TOTAL_ANNUAL_MAX_CAPACITY_INVESTMENT (negsuc 999999999) ∷ by_default param.TOTAL_TECHNOLOGY_ANNUAL_ACTIVITY_UPPER_LIMIT (negsuc 999999999) ∷ []
+
+-- a cost of another kind is looked at where it stands, that of a mode at the mode
+loose_capital : found (small (at param.CAPITAL_COST (rt (codes "T") (codes "2021")) (negsuc 0) ∷ []) unlimited_years) (rule.NegativeCost cost.Capital) ≡ told (rule.NegativeCost cost.Capital) 0 0 0 1 0 (negsuc 0) (pos 0) ∷ []
+unfolding unlimited_years small small_sets at by_default told rt
+loose_capital = refl
+
+loose_variable : found (small (at param.VARIABLE_COST (codes "R" ∷ codes "U" ∷ codes "1" ∷ codes "2020" ∷ []) (negsuc 0) ∷ []) unlimited_years) (rule.NegativeCost cost.Variable) ≡ told (rule.NegativeCost cost.Variable) 0 1 0 0 0 (negsuc 0) (pos 0) ∷ []
+unfolding unlimited_years small small_sets at by_default told
+loose_variable = refl
+
+of_another_cost : found (small (at param.CAPITAL_COST (rt (codes "T") (codes "2021")) (negsuc 0) ∷ []) unlimited_years) (rule.NegativeCost cost.Fixed) ≡ []
+unfolding unlimited_years small small_sets at by_default told rt
+of_another_cost = refl
 
 -- a limit on the activity of the year holds it too, and one on the activity of the model period that is above 0
 held_by : List Default → Built
@@ -248,6 +265,27 @@ near_the_first : found (three_costs (whole 2) (whole 1) (whole 8)) (rule.Outlier
 unfolding three_costs small small_sets at by_default told rt
 near_the_first = refl
 
+-- beside a 0 nothing is far, and a 0 is far from nothing
+zero_itself : found (three_costs (pos 0) (whole 1) (whole 1)) (rule.Outlier series.CapitalCost) ≡ []
+unfolding three_costs small small_sets at by_default told rt
+zero_itself = refl
+
+zero_nearest : found (three_costs (whole 8) (pos 0) (whole 1)) (rule.Outlier series.CapitalCost) ≡ []
+unfolding three_costs small small_sets at by_default told rt
+zero_nearest = refl
+
+zero_beside : found (three_costs (whole 8) (whole 1) (pos 0)) (rule.Outlier series.CapitalCost) ≡ []
+unfolding three_costs small small_sets at by_default told rt
+zero_beside = refl
+
+-- two years tell nothing
+in_two_years : Built
+in_two_years = record { facts = record { sets = set small_sets 6 (codes "2020" ∷ codes "2021" ∷ []); given = (costs (whole 8)).facts.given; defaults = (costs (whole 8)).facts.defaults; second = false }; rounded = 0 }
+
+of_two_years : found in_two_years (rule.Outlier series.CapitalCost) ≡ []
+unfolding in_two_years costs small small_sets at by_default told rt
+of_two_years = refl
+
 -- each series has a parameter of its own: eight times the default in one year
 far_at : ℕ → List (List ℕ) → Built
 far_at number index = small (at number index (whole 8) ∷ []) (by_default number (whole 1) ∷ [])
@@ -289,7 +327,7 @@ no_odd_rate = refl
 -- ---- routes
 
 -- two regions, which send F to each other in 2021
-two_regions : SetLists
+unfoldable pub two_regions : SetLists
 two_regions = set small_sets 0 (codes "R" ∷ codes "S" ∷ [])
 
 routes : ℤ → ℤ → Built
@@ -473,49 +511,3 @@ idle_in_a_year = refl
 not_idle : found (small [] (by_default param.ANNUAL_EMISSION_LIMIT (negsuc 999999999) ∷ by_default param.MODEL_PERIOD_EMISSION_LIMIT (negsuc 999999999) ∷ [])) rule.IdleLimit ≡ []
 unfolding small small_sets at by_default told rt
 not_idle = refl
-
--- ---- lines
-
-decimals : decimal_text (pos 1999999999) ++ codes " " ++ decimal_text (negsuc 499999999) ++ codes " " ++ decimal_text (pos 0) ++ codes " " ++ decimal_text (whole 12800) ++ codes " " ++ decimal_text (pos 10) ≡ codes "1.999999999 -0.5 0 12800 0.00000001"
-unfolding decimal_text part_digits digits
-decimals = refl
-
-crossed_told : line small_sets (told (rule.Crossed pair.Residual) 0 0 0 1 0 (whole 2) (pos 1999999999)) ≡ codes "warning ResidualCapacity of R,T is 2 and TotalAnnualMaxCapacity 1.999999999 in 2021: no plan\n"
-unfolding small_sets told line crossed_line number_text subject_text of_names names_text beside_text years_text more_years decimal_text part_digits digits
-crossed_told = refl
-
-unmade_told : line small_sets (told rule.UnmadeDemand 0 1 0 0 2 (pos 0) (pos 0)) ≡ codes "warning G is asked for in R and nothing makes it in 2020 and 2 more years: no plan\n"
-unfolding small_sets told line unmade_line unmade_text asked_text asked_start names_text years_text more_years decimal_text part_digits digits
-unmade_told = refl
-
-one_more_year : line small_sets (told rule.LargeFactor 0 1 0 1 1 (pos 0) (pos 0)) ≡ codes "warning CapacityFactor of R,U is above 1 in 2021 and 1 more year\n"
-unfolding small_sets told line above_line subject_text of_names names_text years_text more_years decimal_text part_digits digits
-one_more_year = refl
-
-short_life_told : line small_sets (told rule.ShortLives 0 0 0 1 0 (whole 1) (pos 0)) ≡ codes "warning OperationalLife is 1 by default for R,U: each is bought anew each year\n"
-unfolding small_sets told line default_line default_text bare_number for_first first_names more_members decimal_text part_digits digits
-short_life_told = refl
-
-zero_limit_told : line small_sets (told (rule.ZeroLimits limit.Investment) 0 0 0 0 3 (pos 0) (pos 0)) ≡ codes "warning TotalAnnualMaxCapacityInvestment is 0 by default for R,T and 3 more: 0 is a limit, -1 is none\n"
-unfolding small_sets told line default_line default_text bare_number for_first first_names more_members decimal_text part_digits digits
-zero_limit_told = refl
-
-zero_emissions_told : line small_sets (told (rule.ZeroEmissions emission_limit.Annual) 0 0 0 0 0 (pos 0) (pos 0)) ≡ codes "warning AnnualEmissionLimit is 0 by default for R,E: 0 is a limit, -1 is none\n"
-unfolding small_sets told line default_line default_text bare_number for_first first_names more_members decimal_text part_digits digits
-zero_emissions_told = refl
-
-equal_route_told : line two_regions (told rule.EqualRoute 0 1 0 1 0 (pos 900000000) (pos 0)) ≡ codes "warning TradeRoute of R,S,F is 0.9 in 2021: equal both ways, it loses nothing; use a technology\n"
-unfolding two_regions small_sets told line plain_line number_text subject_text of_names names_text years_text more_years decimal_text part_digits digits
-equal_route_told = refl
-
-unequal_route_told : line two_regions (told rule.UnequalRoute 0 1 0 1 1 (pos 900000000) (pos 800000000)) ≡ codes "warning TradeRoute of R,S,F is 0.9 and back 0.8 in 2021 and 1 more year: one way makes energy, the other destroys it; use a technology\n"
-unfolding two_regions small_sets told line both_ways_line both_ways_text number_text subject_text of_names names_text years_text more_years decimal_text part_digits digits
-unequal_route_told = refl
-
-coarse_told : line small_sets (told rule.CoarseRates 0 0 0 1 3 (pos 0) (pos 0)) ≡ codes "warning DiscountRateIdv for R,U and 3 more: investments are more than a millionth off; use --places 9\n"
-unfolding small_sets told line members_line members_text for_first first_names more_members digits
-coarse_told = refl
-
-none : lines_text small_sets [] [] ≡ codes "warnings 0\n"
-unfolding small_sets last_line digits
-none = refl

@@ -2,6 +2,7 @@ mod Common
 mod LineEnds
 mod Examples
 mod StorageExamples
+mod LineExamples
 pub mod Billionths
 pub mod CrossedLimits
 pub mod DigitLaws
