@@ -47,6 +47,13 @@ def try_words(script, program, folder, count):
         if is_late or said[0] != NO_PROGRAM and said != wanted:
             wrong += 1
             print(f"wrong: {words}: {said}, and the program {wanted}")
+        tried = answer(script, ["try", *words], folder)
+        if tried != said:
+            wrong += 1
+            print(f"wrong: {words}: {said}, and with 'try' {tried}")
+    if answer(script, ["try", "results", "a.dat", "folder"], folder) != (5, b""):
+        wrong += 1
+        print("wrong: 'try results' is built")
     return early, wrong
 
 

@@ -152,6 +152,11 @@ commit() {
 
 # Runs the program as it stands, unproved. It runs in a folder of its own, where each file that the words name has another name.
 try_unproved() {
+  if [ "${1-}" = results ]; then
+    say "'results' asks the program several times, so it has to be built; 'try solve' and 'try page' show most of it"
+    exit "$UNKNOWN_WORD"
+  fi
+  answer_early "$@"
   need_rt
   local told status words=() files=() most=1 is_value=
   case ${1-} in check) most=3 ;; table | page) most=2 ;; compare) most=4 ;; make) most=0 ;; esac

@@ -60,11 +60,7 @@ fn is_of_storages(param: u8) -> bool
 }
 
 // Marks the technologies that values other than 0 name.
-fn mark_of(
-    marked: &mut BTreeMap<u16, bool>,
-    sets: &Sets,
-    values: &Values,
-) -> Result<(), AllocError>
+fn mark_of(marked: &mut BTreeMap<u16, bool>, sets: &Sets, values: &Values) -> Result<(), AllocError>
     ensures { OnOk result ((t : ℕ) → is_some (get nat_cmp marked.new t) ≡ (is_some (get nat_cmp marked.old t) || list_any (links sets.now t) values.now)) }
 {
     for number in 0..values.len() {

@@ -145,7 +145,7 @@ fn answer_data(
     watcher: &mut dyn Watcher,
 ) -> Result<Answer, AllocError>
     requires in_range { IsInRange (question_of command) }
-    requires data { IsOverData (question_of command) }
+    requires over_data { IsOverData (question_of command) }
     requires stands { (text : List ℕ) × StandsFor reader text }
     ensures { (text : List ℕ) → StandsFor reader text → length text ≤ most_bytes → IfOk result (λ answer.
         DueForText (DueOverData (question_of command.entry) (source_of text changes.entry).changes (text ∷ map (λ bytes. bytes.items) others.now)) (source_of text changes.entry) answer.status answer.text.items) }
@@ -166,7 +166,7 @@ fn answer_over(
     watcher: &mut dyn Watcher,
 ) -> Result<Answer, AllocError>
     requires in_range { IsInRange (question_of command) }
-    requires data { IsOverData (question_of command) }
+    requires over_data { IsOverData (question_of command) }
     ensures { (text : List ℕ) → IfOk result (λ answer.
         DueOverData (question_of command.entry) (option_map (λ bytes. bytes.now) changes.entry) (text ∷ map (λ bytes. bytes.items) others.now) model.now.rounded model.now.facts answer.status answer.text.items) }
 {

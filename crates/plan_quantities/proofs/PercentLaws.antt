@@ -168,7 +168,7 @@ percent-promised places d name p bound price limit saved promised over_limit is 
           let lb : ℤ = limit.bottom in
           let whole_bottom : pos (100 * unsigned_abs lb) ≡ pos 100 *ℤ lb = ap (λ u. pos 100 *ℤ u) (bottom-whole lb over_limit) in
           let costs = subst (λ u. ((bound.top *ℤ price.bottom *ℤ u +ℤ price.top *ℤ limit.top *ℤ bound.bottom) *ℤ pos q) ≤ℤ (bound.bottom *ℤ price.bottom *ℤ u *ℤ cost d x)) whole_bottom
-              (promised.costs limit.top (100 * unsigned_abs lb) q x (above lb over_limit) less) in
+          (promised.costs limit.top (100 * unsigned_abs lb) q x (above lb over_limit) less) in
           unscaled (price.bottom *ℤ (pos 100 *ℤ lb)) _ _ (*ℤ_pos price.bottom (pos 100 *ℤ lb) promised.price_positive (hundreds lb over_limit))
           (least-by bound.top bound.bottom price.top price.bottom limit.top lb z.top z.bottom (pos q) (cost d x) (saving-positive price limit promised.price_positive over_limit)
           (saving-cross price limit promised.price_positive over_limit) costs);

@@ -4,7 +4,7 @@ use Rattle.osemosys_run.proofs.RequestLaws.{over_data}
 use Rattle.osemosys_run.proofs.answering.answer_read.Goals as goal
 
 pub answer_data-requires : goal.answer_data-requires
-answer_data-requires g c = record { in_range = c.requires.in_range; data = over_data c.args.command c.in_default.not-Warn c.requires.one; stands = c.requires.stands }
+answer_data-requires g c = record { in_range = c.requires.in_range; over_data = over_data c.args.command c.in_default.not-Warn c.requires.one; stands = c.requires.stands }
 
 pub returns-in-Warn : goal.returns-in-Warn
 returns-in-Warn g c = λ text stands short.
