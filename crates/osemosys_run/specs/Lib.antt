@@ -11,4 +11,5 @@ pub mod Promised
 pub mod Replies
 pub mod Requests
 pub mod Scenarios
+pub mod ShownEnds
 pub mod Warned

@@ -23,6 +23,7 @@ mod reply;
 mod run;
 mod scenarios;
 mod sending;
+mod shown_ends;
 mod table_file;
 mod warned;
 

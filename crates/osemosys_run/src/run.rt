@@ -33,6 +33,7 @@ ghost use Rattle.command_answers.specs.declared.status.Status.{Status};
 ghost use Rattle.command_answers.specs.Accepted.{Accepted, Source, plain};
 ghost use Rattle.command_answers.specs.NotAccepted.{DueWhereNotAccepted};
 ghost use Rattle.command_answers.specs.SolvedPlans.{IsNearOptimum};
+ghost use Rattle.check_command.specs.Check.{DueForCheck};
 ghost use Rattle.check_command.specs.CheckProof.{DueForProof, DueForProofFile};
 ghost use Rattle.command_words.specs.Commands.{question_of, request_of};
 ghost use Rattle.command_words.specs.Ranges.{IsInRange};
@@ -40,6 +41,7 @@ ghost use Rattle.command_words.specs.WordParts.{HasSpelledParts, Part};
 ghost use Rattle.command_words.specs.Words.{asked};
 ghost use Rattle.compare_command.specs.Compared.{Written};
 ghost use Rattle.command_words.specs.declared.command.SolveMethod.{SolveMethod};
+ghost use Rattle.command_words.specs.declared.command.SolveShow.{SolveShow};
 ghost use Rattle.data_warnings.specs.Lines.{line};
 ghost use Rattle.data_warnings.specs.NoPlan.{EndsIn, excludes_plans, no_plan_ending};
 ghost use Rattle.data_warnings.specs.declared.places.Finding.{Finding};
@@ -53,6 +55,7 @@ ghost use Rattle.osemosys_run.specs.Complete.{Completes};
 ghost use Rattle.osemosys_run.specs.Due.{AskForEquations, Due};
 ghost use Rattle.osemosys_run.specs.Mps.{WritesEquations};
 ghost use Rattle.osemosys_run.specs.Promised.{IsPromisedTable};
+ghost use Rattle.osemosys_run.specs.ShownEnds.{WritesOptimum};
 ghost use Rattle.osemosys_run.specs.Warned.{IsWarned, findings_over};
 ghost use Rattle.osemosys_run.specs.Causes.{Caused, IsReplyFor};
 ghost use Rattle.osemosys_run.specs.ReadToEnd.{IsReadToEnd, ReadsWhole};
@@ -69,6 +72,7 @@ use crate::mps_program::mps_laws;
 use crate::promised::promised_laws;
 use crate::reply::Reply;
 use crate::scenarios::scenario_laws;
+use crate::shown_ends::shown_laws;
 use crate::warned::warned_laws;
 use call_stages::{Stage, Unwatched, Watcher};
 use command_answers::{Status, acceptance_laws, refuse_words};
@@ -229,6 +233,12 @@ pub fn osemosys<S: Shelf, K: Sink>(
     ensures proofs { (places gap pivots : ℕ) (method : SolveMethod) (rounded : ℕ) (source : Source) (d : Data) (end status : Status) (proof text : List ℕ)
         → Accepted source d → ProvesEnd places gap pivots method rounded d end proof → DueForProof places proof gap d status text → AcceptsEnd end status text }
 
+    // A plan and multipliers that `solve` writes with the gap 0, each in a file of its own, are accepted by `check` together, over the same data and with the same
+    // decimal places, with any gap, also where their calls differ in method, pivots and start.
+    ensures plan_and_multipliers { (places gap rounded also : ℕ) (d : Data) (plan multipliers : List ℕ) (status : Status) (text : List ℕ)
+        → WritesOptimum SolveShow.Plan places rounded d plan → WritesOptimum SolveShow.Multipliers places also d multipliers
+        → DueForCheck places plan (Some multipliers) gap d status text → status ≡ Status.Done }
+
     // A failed read is answered only where the shelf counted a fault, and a failed write only where the sink did.
     ensures failed_read { (file : ℕ) → result ≡ Status.ReadFault (ReadStop.Failed file) → Rose (S.faults shelf.old) (S.faults shelf.new) }
     ensures failed_write { result ≡ Status.WriteFault → Rose (K.faults out.old) (K.faults out.new) }
@@ -250,6 +260,7 @@ pub fn osemosys<S: Shelf, K: Sink>(
     difference_laws();
     warned_laws();
     accepting_laws();
+    shown_laws();
     osemosys_watched(alloc, words, shelf, out, &mut Unwatched)
 }
 
