@@ -17,6 +17,7 @@ CUT = {
     "TotalTechnologyModelPeriodActivityUpperLimit": "TotalTechnologyModelPeriodActUp",
     "TotalTechnologyModelPeriodActivityLowerLimit": "TotalTechnologyModelPeriodActLo",
 }
+STORING = dict.fromkeys(["TechnologyToStorage", "TechnologyFromStorage"], ["REGION", "TECHNOLOGY", "STORAGE", "MODE_OF_OPERATION"])
 USUAL = dict.fromkeys(USED, 0) | dict.fromkeys(["CapacityToActivityUnit", "CapacityFactor", "AvailabilityFactor", "OperationalLife"], 1)
 USUAL |= {it: -1 for it in USED if "Max" in it or "Upper" in it or it.endswith("EmissionLimit")}
 USUAL |= {"DiscountRate": Fraction(5, 100), "DepreciationMethod": 1}
@@ -59,7 +60,7 @@ def write_folder(data, folder, is_wide=False, is_sparse=False):
 
     for name, members in data.sets.items():
         write(name, [["VALUE"]] + [[it] for it in members])
-    for name, of in [*USED.items(), *WHERE_STATED.items()]:
+    for name, of in [*USED.items(), *WHERE_STATED.items(), *STORING.items()]:
         records = [columns(name, of) + ["VALUE"]] + [[*index, decimal(value)] for index, value in given(data, name, is_sparse)]
         if is_wide and of[-1] == "YEAR":
             records = wide_records(records, data.sets["YEAR"])

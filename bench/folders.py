@@ -10,7 +10,7 @@ import shutil
 import subprocess
 import sys
 
-from csv_folder import decimal, write_folder
+from csv_folder import STORING, decimal, write_folder
 from data_files import UNUSED, USED, WHERE_STATED, Data
 
 TOP, WORK, PROGRAM, *FILES = sys.argv[1:]
@@ -63,6 +63,9 @@ def data_file(*words):
 
 def differences(before, after):
     """Where two data don't say the same."""
+    for name in STORING:
+        if [it for it in before.values.items() if it[0][0] == name] != [it for it in after.values.items() if it[0][0] == name]:
+            yield name
     for name, members in before.sets.items():
         if members != after.sets[name]:
             yield f"the set {name}"
@@ -121,8 +124,15 @@ def try_file(path):
 
 
 def try_notes():
-    """A folder with blank columns and lines, as spreadsheets leave them, and without a file: what is said, and that all else is as before."""
-    before = Data(f"{TOP}/examples/base.dat")
+    """A folder with blank columns and lines, as spreadsheets leave them, without a file, and with a storage that STORAGE lacks: what is said, and
+    that all else is as before."""
+    with open(f"{TOP}/examples/base.dat", encoding="ascii") as file:
+        text = file.read().replace("end;", "param TechnologyFromStorage default 0 := R T DAM 1 1 ;\nend;")
+    with open(f"{WORK}/stored.dat", "w", encoding="ascii") as file:
+        file.write(text)
+    before = Data(f"{WORK}/stored.dat")
+    if not any(name in STORING for name, _ in before.values):
+        wrong("notes: the file has no storage")
     write_folder(before, f"{WORK}/notes")
     os.remove(f"{WORK}/notes/ReserveMargin.csv")
     with open(f"{WORK}/notes/CapitalCost.csv", "w", encoding="utf-8") as file:

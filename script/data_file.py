@@ -10,8 +10,8 @@ configuration. It is said on standard error where a rate, a life or a method com
 is a value of it, and has no default but that of DEFAULTS.
 
 What is wrong is told on standard error, a line each, and then nothing is written. The status is 4 then, 5 for words that ask for nothing,
-6 for a file that can't be read, 7 for one that can't be written. Of storage the members alone are written, so that a model that has some is
-refused by `osemosys`, which says so."""
+6 for a file that can't be read, 7 for one that can't be written. Of storages there are written the members, which `osemosys` refuses, and
+which technologies charge and discharge, which its `warn` tells."""
 
 import csv
 import decimal
@@ -23,9 +23,9 @@ import sys
 REFUSED, WORDS, NO_FILE, NO_WRITE = 4, 5, 6, 7
 MOST_TOLD = 20
 
-R, T, F, E, M, L, Y = "REGION", "TECHNOLOGY", "FUEL", "EMISSION", "MODE_OF_OPERATION", "TIMESLICE", "YEAR"
+R, T, F, E, M, L, Y, S = "REGION", "TECHNOLOGY", "FUEL", "EMISSION", "MODE_OF_OPERATION", "TIMESLICE", "YEAR", "STORAGE"
 NEEDED = [R, T, F, M, L, Y]
-SETS = [R, T, F, E, M, L, Y, "STORAGE", "SEASON", "DAYTYPE", "DAILYTIMEBRACKET"]
+SETS = [R, T, F, E, M, L, Y, S, "SEASON", "DAYTYPE", "DAILYTIMEBRACKET"]
 REGION_AGAIN = [R, "_REGION", "REGION2", "REGION.1"]
 
 # the parameters with the sets of their subscripts and otoole's defaults
@@ -69,13 +69,18 @@ PARAMETERS = {
     "ModelPeriodExogenousEmission": ([R, E], "0"),
     "ModelPeriodEmissionLimit": ([R, E], "-1"),
     "DiscountRateIdv": ([R, T], None),
+    # the equations have no storages: `osemosys warn` tells which technologies charge and discharge
+    "TechnologyToStorage": ([R, T, S, M], "0"),
+    "TechnologyFromStorage": ([R, T, S, M], "0"),
 }
+# those that aren't written without a value
+WHERE_GIVEN = ["DiscountRateIdv", "TechnologyToStorage", "TechnologyFromStorage"]
 # those whose default says something of the model that nobody may have meant
 TOLD_DEFAULTS = ["DiscountRate", "DepreciationMethod", "OperationalLife"]
 # those that the equations don't use; their files aren't read
-PASSED_OVER = """Conversionls Conversionld Conversionlh DaySplit DaysInDayType TechnologyToStorage TechnologyFromStorage StorageLevelStart
-    StorageMaxChargeRate StorageMaxDischargeRate MinStorageCharge OperationalLifeStorage CapitalCostStorage ResidualStorageCapacity
-    DiscountRateStorage _REGION""".split()
+PASSED_OVER = """Conversionls Conversionld Conversionlh DaySplit DaysInDayType StorageLevelStart StorageMaxChargeRate
+    StorageMaxDischargeRate MinStorageCharge OperationalLifeStorage CapitalCostStorage ResidualStorageCapacity DiscountRateStorage
+    _REGION""".split()
 # how otoole shortens names for the sheets of a workbook
 SHORT = {
     "TotalAnnualMaxCapacityInvestmen": "TotalAnnualMaxCapacityInvestment",
@@ -153,6 +158,10 @@ def number(place, text):
     return None
 
 
+def is_ascii(member):
+    return member != "" and all(" " <= letter <= "~" for letter in member)
+
+
 def read_set(name, path):
     """The members, in the order of the file."""
     records = records_of(path)
@@ -170,7 +179,7 @@ def read_set(name, path):
             fault(place, "there is no member")
         elif member in members:
             fault(place, f"{member} is a member since line {members[member]}")
-        elif not all(" " <= letter <= "~" for letter in member):
+        elif not is_ascii(member):
             fault(place, f"{member} has other letters than ASCII's, which the program doesn't read")
         elif name == Y and not re.fullmatch(r"[1-9]\d{0,3}", member, re.A):
             fault(place, f"{member} is no year: its digits alone, as 2030")
@@ -225,7 +234,8 @@ def read_parameter(name, path, sets):
 def put(name, place, index, text, sets, found):
     """Keeps a value with its place."""
     value = number(place, text)
-    unknown = [(it, of) for it, of in zip(index, PARAMETERS[name][0]) if it not in sets[of]]
+    # (STORAGE may have been emptied, so that the model is taken without its storages)
+    unknown = [(it, of) for it, of in zip(index, PARAMETERS[name][0]) if it not in sets[of] and (of != S or not is_ascii(it))]
     for member, of in unknown:
         fault(place, f"'{member}' is no member of {of}")
     if index in found:
@@ -299,7 +309,7 @@ def text_of(folder, given):
         if not sets[name] and not faults:
             fault(folder, f"{name}.csv has no member" if name in files else f"there is no {name}.csv")
     stop_at_faults()
-    missing = [name for name in PARAMETERS if name not in files and name != "DiscountRateIdv"]
+    missing = [name for name in PARAMETERS if name not in files and name not in WHERE_GIVEN]
     if missing:
         notes.append(f"there is no file of {', '.join(missing)}, so the defaults hold")
     parts = ["data;\n"] + [f"set {name} :={''.join(' ' + symbol(it) for it in sets[name])} ;\n" for name in SETS]
@@ -308,9 +318,9 @@ def text_of(folder, given):
         default = given.get(name, usual)
         if name in TOLD_DEFAULTS and name not in given and len(values) < size_of(name, sets):
             notes.append(f"{name} is {default} where the folder has no value, as by otoole's own configuration")
-        if values or default is not None:
+        if values or name not in WHERE_GIVEN or name in given:
             parts.append(statement(name, values, default))
-        elif name in files:
+        elif name in files and name == "DiscountRateIdv":
             notes.append(f"{name} has no value, so it isn't written, and no investment is spread over its life")
     stop_at_faults()
     return "".join(parts) + "end;\n", notes
