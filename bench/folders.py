@@ -1,8 +1,9 @@
 """Tries script/data_file.py. Usage: folders.py TOP WORK PROGRAM FILE ..
 
-Of each data file a folder of CSV files is made in three ways, and a data file of that: it must say the same by bench/data_files.py, and the
-equations must be the same bytes, as the program writes them and as glpsol does by bench/mps.mod, where it is there. Then folders with a mistake must be
-refused with its place. Prints what is wrong, and how many files were compared."""
+Of each data file a folder of CSV files is made in three ways, and a data file of that: it must say the same by bench/data_files.py, and
+the equations must be the same bytes, as the program writes them and as glpsol does by bench/mps.mod, where it is there. Then a folder as
+spreadsheets leave it is read, and folders with a mistake must be refused with its place. Prints what is wrong, and how many files were
+compared."""
 import itertools
 import os
 import re

@@ -117,7 +117,7 @@ def stop_at_faults():
 
 
 def records_of(path):
-    """The records of a CSV file with the lines that they end on; without blank ones, and without blank columns after the last of the header."""
+    """The records of a CSV file with the lines that they end on, without blank ones and without blank columns after the header's last."""
     try:
         with open(path, encoding="utf-8-sig", newline="") as file:
             text = file.read()
