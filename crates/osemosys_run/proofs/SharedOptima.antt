@@ -95,10 +95,10 @@ best-by gap show places rounded d text pivots method (inr (start, inr none)) = a
 
 -- ---- and to what `check` says of both files
 
-width-or-memory : (place : Place) → book.Width place ≡ book.Memory → ⊥
+pub width-or-memory : (place : Place) → book.Width place ≡ book.Memory → ⊥
 width-or-memory place e = cc e
 
-many-or-memory : book.TooManyEntries ≡ book.Memory → ⊥
+pub many-or-memory : book.TooManyEntries ≡ book.Memory → ⊥
 many-or-memory e = cc e
 
 module _ (laws : FileLaws) (made_law : (places : ℕ) (d : Data) (before : ℕ) (names : List RowName) (fail : BookFail) → CanBeMade places d before names → HasStopped places d before names fail → fail ≡ book.Memory)
