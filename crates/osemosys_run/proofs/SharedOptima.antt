@@ -26,31 +26,31 @@ pub record FileLaws : Type 0 where
   pub multipliers_or_fault : (sets : SetLists) (names : List RowName) (all : List Fields) (p : List (RowName × Rational)) (fault : PlanFault) → AreMultipliers sets names all p
       → ¬ (IsMultiplierFault sets names all fault)
 
--- an optimum over rows of the data, with no gap, and what the text of it tells
-record TellsBest (shown : Shown) (places : ℕ) (d : Data) (text : List ℕ) : Type 0 where
-  made : CanBeMade places d 0 (instances d)
-  rows : List Row
-  are_rows : AreRowsOf places d (instances d) rows
-  plan : List (Var × Rational)
-  multipliers : List (RowName × Rational)
-  cost : Rational
-  bound : Rational
-  near : IsNearOptimum places d rows 0 plan multipliers cost bound
-  told : TellsShown shown d plan multipliers text
+-- an optimum over rows of the data, within the gap, and what the text of it tells
+pub record TellsBest (gap : ℕ) (shown : Shown) (places : ℕ) (d : Data) (text : List ℕ) : Type 0 where
+  pub made : CanBeMade places d 0 (instances d)
+  pub rows : List Row
+  pub are_rows : AreRowsOf places d (instances d) rows
+  pub plan : List (Var × Rational)
+  pub multipliers : List (RowName × Rational)
+  pub cost : Rational
+  pub bound : Rational
+  pub near : IsNearOptimum places d rows gap plan multipliers cost bound
+  pub told : TellsShown shown d plan multipliers text
 
 -- ---- from what is due to the optimum
 
-module _ (shown : Shown) (places : ℕ) (d : Data) (rounded : ℕ) (text : List ℕ) where
+module _ (gap : ℕ) (shown : Shown) (places : ℕ) (d : Data) (rounded : ℕ) (text : List ℕ) where
   module _ (pivots : ℕ) (made : CanBeMade places d 0 (instances d)) (rows : List Row) (are : AreRowsOf places d (instances d) rows) where
     abbrev wanted : SolveMethod → Begun → Wanted
-    wanted method begun = record { gap = 0; pivots = pivots; show = shown; method = method; begun = begun }
+    wanted method begun = record { gap = gap; pivots = pivots; show = shown; method = method; begun = begun }
 
-    of : (plan : List (Var × Rational)) (multipliers : List (RowName × Rational)) (cost bound : Rational) → IsNearOptimum places d rows 0 plan multipliers cost bound
-        → TellsShown shown d plan multipliers text → TellsBest shown places d text
+    of : (plan : List (Var × Rational)) (multipliers : List (RowName × Rational)) (cost bound : Rational) → IsNearOptimum places d rows gap plan multipliers cost bound
+        → TellsShown shown d plan multipliers text → TellsBest gap shown places d text
     of plan multipliers cost bound near told =
         record { made = made; rows = rows; are_rows = are; plan = plan; multipliers = multipliers; cost = cost; bound = bound; near = near; told = told }
 
-    of-end : (method : SolveMethod) (begun : Begun) → DueForEnd places d rows (wanted method begun) rounded Done text → TellsBest shown places d text
+    of-end : (method : SolveMethod) (begun : Begun) → DueForEnd places d rows (wanted method begun) rounded Done text → TellsBest gap shown places d text
     of-end method begun (inl solved) = of solved.plan solved.multipliers solved.cost solved.bound solved.optimum.near solved.told
     of-end method begun (inr (inl infeasible)) = absurd (cc infeasible.0.status_is)
     of-end method begun (inr (inr (inl unbounded))) = absurd (cc unbounded.0.status_is)
@@ -59,7 +59,7 @@ module _ (shown : Shown) (places : ℕ) (d : Data) (rounded : ℕ) (text : List 
     of-end method begun (inr (inr (inr (inr (inr (inl wide)))))) = absurd (cc wide.status_is)
     of-end method begun (inr (inr (inr (inr (inr (inr second)))))) = of second.found.plan second.found.multipliers second.found.cost second.found.bound second.optimum second.told
 
-    of-method : (method asked : SolveMethod) (begun : Begun) → DueBy method places d rows (wanted asked begun) rounded Done text → TellsBest shown places d text
+    of-method : (method asked : SolveMethod) (begun : Begun) → DueBy method places d rows (wanted asked begun) rounded Done text → TellsBest gap shown places d text
     of-method Exact asked begun due = of-end asked begun due
     of-method Rounded asked begun (inl found) = of found.plan found.multipliers found.cost found.bound found.optimum found.told
     of-method Rounded asked begun (inr (inl infeasible)) = absurd (cc infeasible.0.status_is)
@@ -69,13 +69,13 @@ module _ (shown : Shown) (places : ℕ) (d : Data) (rounded : ℕ) (text : List 
     no-size Exact rows columns told = cc told.0
     no-size Rounded rows columns told = cc told.0
 
-    of-rows : (method : SolveMethod) (begun : Begun) → DueForRows places d rows (wanted method begun) rounded Done text → TellsBest shown places d text
+    of-rows : (method : SolveMethod) (begun : Begun) → DueForRows places d rows (wanted method begun) rounded Done text → TellsBest gap shown places d text
     of-rows method begun due = elim (rows-due places d rows (wanted method begun) rounded Done text due) [
       | inl large ↦ absurd (no-size method _ _ large.told)
       | inr by ↦ of-method method method begun by
     ]
 
-    of-start : (told : Told) (method : SolveMethod) → DueFrom told places d rows (wanted method FromNothing) rounded Done text → TellsBest shown places d text
+    of-start : (told : Told) (method : SolveMethod) → DueFrom told places d rows (wanted method FromNothing) rounded Done text → TellsBest gap shown places d text
     of-start (Breaks number) method due = absurd (cc due.0)
     of-start Lacks method due = of-rows method WithoutStart due
     of-start (Gives founds) method due = of-rows method (FromValues (count_by is_value founds) (count_by is_passed founds)) due
@@ -84,26 +84,25 @@ module _ (shown : Shown) (places : ℕ) (d : Data) (rounded : ℕ) (text : List 
   no-rows (inl wide) = cc wide.status_is
   no-rows (inr many) = cc many.status_is
 
-best-of : (show : SolveShow) (places rounded : ℕ) (d : Data) (text : List ℕ) → WritesOptimum show places rounded d text → TellsBest (shown_of show) places d text
-best-of show places rounded d text writes = by writes.due
-  where
-    by : DueForSolve places (wanted_by 0 writes.pivots show writes.method) rounded d Done text ⊎ ((start : List ℕ) × DueForSolveFrom places (wanted_by 0 writes.pivots show writes.method) start rounded d Done text)
-        → TellsBest (shown_of show) places d text
-    by (inl (inl made)) = of-rows (shown_of show) places d rounded text writes.pivots made.made made.rows made.are_rows writes.method FromNothing made.due
-    by (inl (inr none)) = absurd (no-rows (shown_of show) places d rounded text none)
-    by (inr (start, inl made)) = of-start (shown_of show) places d rounded text writes.pivots made.made made.rows made.are_rows made.due.0 writes.method made.due.2
-    by (inr (start, inr none)) = absurd (no-rows (shown_of show) places d rounded text none)
+pub best-by : (gap : ℕ) (show : SolveShow) (places rounded : ℕ) (d : Data) (text : List ℕ) (pivots : ℕ) (method : SolveMethod)
+    → DueForSolve places (wanted_by gap pivots show method) rounded d Done text ⊎ ((start : List ℕ) × DueForSolveFrom places (wanted_by gap pivots show method) start rounded d Done text)
+    → TellsBest gap (shown_of show) places d text
+best-by gap show places rounded d text pivots method (inl (inl made)) = of-rows gap (shown_of show) places d rounded text pivots made.made made.rows made.are_rows method FromNothing made.due
+best-by gap show places rounded d text pivots method (inl (inr none)) = absurd (no-rows gap (shown_of show) places d rounded text none)
+best-by gap show places rounded d text pivots method (inr (start, inl made)) =
+    of-start gap (shown_of show) places d rounded text pivots made.made made.rows made.are_rows made.due.0 method made.due.2
+best-by gap show places rounded d text pivots method (inr (start, inr none)) = absurd (no-rows gap (shown_of show) places d rounded text none)
 
 -- ---- and to what `check` says of both files
 
-width-or-memory : (place : Place) → book.Width place ≡ book.Memory → ⊥
+pub width-or-memory : (place : Place) → book.Width place ≡ book.Memory → ⊥
 width-or-memory place e = cc e
 
-many-or-memory : book.TooManyEntries ≡ book.Memory → ⊥
+pub many-or-memory : book.TooManyEntries ≡ book.Memory → ⊥
 many-or-memory e = cc e
 
 module _ (laws : FileLaws) (made_law : (places : ℕ) (d : Data) (before : ℕ) (names : List RowName) (fail : BookFail) → CanBeMade places d before names → HasStopped places d before names fail → fail ≡ book.Memory)
-    (places gap : ℕ) (d : Data) (plan_file multiplier_file : List ℕ) (one : TellsBest (shown_of words.Plan) places d plan_file) (two : TellsBest (shown_of words.Multipliers) places d multiplier_file)
+    (places gap : ℕ) (d : Data) (plan_file multiplier_file : List ℕ) (one : TellsBest 0 (shown_of words.Plan) places d plan_file) (two : TellsBest 0 (shown_of words.Multipliers) places d multiplier_file)
     (status : Status) (text : List ℕ) where
   module _ (rows : List Row) (are : AreRowsOf places d (instances d) rows) where
     both : DueForPlan places d rows one.plan (Some two.told.kept) gap status text → status ≡ Done
@@ -140,4 +139,4 @@ pub files-accepted : (laws : FileLaws) → ((places : ℕ) (d : Data) (before : 
     → (places gap rounded also : ℕ) (d : Data) (plan_file multiplier_file : List ℕ) (status : Status) (text : List ℕ) → WritesOptimum words.Plan places rounded d plan_file
     → WritesOptimum words.Multipliers places also d multiplier_file → DueForCheck places plan_file (Some multiplier_file) gap d status text → status ≡ Done
 files-accepted laws made_law places gap rounded also d plan_file multiplier_file status text one two due =
-    of-check laws made_law places gap d plan_file multiplier_file (best-of words.Plan places rounded d plan_file one) (best-of words.Multipliers places also d multiplier_file two) status text due
+    of-check laws made_law places gap d plan_file multiplier_file (best-by 0 words.Plan places rounded d plan_file one.pivots one.method one.due) (best-by 0 words.Multipliers places also d multiplier_file two.pivots two.method two.due) status text due

@@ -24,6 +24,7 @@ mod run;
 mod scenarios;
 mod sending;
 mod shown_ends;
+mod shown_proofs;
 mod table_file;
 mod warned;
 

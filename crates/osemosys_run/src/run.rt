@@ -46,7 +46,11 @@ ghost use Rattle.data_warnings.specs.Lines.{line};
 ghost use Rattle.data_warnings.specs.NoPlan.{EndsIn, excludes_plans, no_plan_ending};
 ghost use Rattle.data_warnings.specs.declared.places.Finding.{Finding};
 ghost use Rattle.solve_command.specs.Promises.{ArePromised};
-ghost use Rattle.table_command.specs.Tables.{DueForTable, form_of};
+ghost use Rattle.page_command.specs.Pages.{DueForPage, ShowsPage};
+ghost use Rattle.result_pages.specs.Pages.{Title};
+ghost use Rattle.table_command.specs.declared.shown.Shown.{Shown};
+ghost use Rattle.table_command.specs.ShownTables.{shown_named};
+ghost use Rattle.table_command.specs.Tables.{DueForTable, ShowsProof, form_of};
 ghost use Rattle.request_files.specs.Reading.{IsSameShelf};
 ghost use Rattle.request_files.specs.Sights.{seen};
 ghost use Rattle.osemosys_run.specs.Accepting.{AcceptsEnd, ProvesEnd};
@@ -55,7 +59,7 @@ ghost use Rattle.osemosys_run.specs.Complete.{Completes};
 ghost use Rattle.osemosys_run.specs.Due.{AskForEquations, Due};
 ghost use Rattle.osemosys_run.specs.Mps.{WritesEquations};
 ghost use Rattle.osemosys_run.specs.Promised.{IsPromisedTable};
-ghost use Rattle.osemosys_run.specs.ShownEnds.{WritesOptimum};
+ghost use Rattle.osemosys_run.specs.ShownEnds.{ShowsWritten, WritesOptimum};
 ghost use Rattle.osemosys_run.specs.Warned.{IsWarned, findings_over};
 ghost use Rattle.osemosys_run.specs.Causes.{Caused, IsReplyFor};
 ghost use Rattle.osemosys_run.specs.ReadToEnd.{IsReadToEnd, ReadsWhole};
@@ -73,6 +77,7 @@ use crate::promised::promised_laws;
 use crate::reply::Reply;
 use crate::scenarios::scenario_laws;
 use crate::shown_ends::shown_laws;
+use crate::shown_proofs::{page_laws, written_laws};
 use crate::warned::warned_laws;
 use call_stages::{Stage, Unwatched, Watcher};
 use command_answers::{Status, acceptance_laws, refuse_words};
@@ -239,6 +244,16 @@ pub fn osemosys<S: Shelf, K: Sink>(
         → WritesOptimum SolveShow.Plan places rounded d plan → WritesOptimum SolveShow.Multipliers places also d multipliers
         → DueForCheck places plan (Some multipliers) gap d status text → status ≡ Status.Done }
 
+    // What `table` and `page` show of the file in which `solve` proves an optimum is of the plan and the multipliers that the file was written of.
+    ensures tables { (places gap pivots : ℕ) (method : SolveMethod) (rounded : ℕ) (source : Source) (d : Data) (proof name : List ℕ) (shown : Shown) (exact : Bool) (status : Status) (text : List ℕ)
+        → Accepted source d → ProvesEnd places gap pivots method rounded d Status.Done proof → shown_named d.second name ≡ Some shown
+        → DueForTable places (λ rows. DueForProofFile places d rows proof gap) proof name (form_of exact) d status text
+        → ShowsWritten (λ rows said. ShowsProof places d rows shown (form_of exact)) places gap d proof status text }
+    ensures pages { (places gap pivots : ℕ) (method : SolveMethod) (rounded : ℕ) (source : Source) (d : Data) (proof : List ℕ) (title : Title) (also : ℕ) (status : Status) (text : List ℕ)
+        → Accepted source d → ProvesEnd places gap pivots method rounded d Status.Done proof
+        → DueForPage title also places (λ rows. DueForProofFile places d rows proof gap) proof d status text
+        → ShowsWritten (λ rows. ShowsPage title also places d rows) places gap d proof status text }
+
     // A failed read is answered only where the shelf counted a fault, and a failed write only where the sink did.
     ensures failed_read { (file : ℕ) → result ≡ Status.ReadFault (ReadStop.Failed file) → Rose (S.faults shelf.old) (S.faults shelf.new) }
     ensures failed_write { result ≡ Status.WriteFault → Rose (K.faults out.old) (K.faults out.new) }
@@ -261,6 +276,8 @@ pub fn osemosys<S: Shelf, K: Sink>(
     warned_laws();
     accepting_laws();
     shown_laws();
+    written_laws();
+    page_laws();
     osemosys_watched(alloc, words, shelf, out, &mut Unwatched)
 }
 
