@@ -15,8 +15,11 @@ use Rattle.data_warnings.specs.declared.places.Finding.{Finding}
 abbrev pub findings_over : ℕ → Data → List Finding
 findings_over rounded d = findings (record { facts = d; rounded = rounded })
 
--- the text has the lines of what is found in the data, whose sets are by their rules, and whose values are in their ranges
-pub record IsWarned (rounded : ℕ) (d : Data) (status : Status) (text : List ℕ) : Type 0 where
+-- Of a data file that says these data: the text has the lines of what is found in the data, whose sets are by the rules, and whose values are in their ranges,
+-- and of the technologies that the file links with storages.
+pub record IsWarned (file : List ℕ) (rounded : ℕ) (d : Data) (status : Status) (text : List ℕ) : Type 0 where
   pub complete : AreComplete d
+  pub blocks : Blocks
+  pub says : Says file blocks
   pub status_is : status ≡ Done
-  pub text_is : text ≡ lines_text d.sets (findings_over rounded d)
+  pub text_is : text ≡ lines_text d.sets (findings_over rounded d) (storage_users d.sets blocks)
